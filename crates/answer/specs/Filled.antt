@@ -1,0 +1,17 @@
+-- What a call that writes answers and what the lent memory holds afterwards (document 01: "A call that writes fills the
+-- front of what it is lent, answers how much, and changes nothing after that"; on a refusal "lent memory stays
+-- unchanged"). Both come from one definition of the call, an `Outcome` of what it writes.
+use Prim.Native.Nat.{ℕ}
+use mathlib.Core.List.{List, _++_}
+use lib.ListN.{length, drop}
+use Rattle.answer.specs.Outcome.{Outcome, answer, refuse}
+
+-- how much is written
+abbrev pub amount : Outcome (List ℕ) → Outcome ℕ
+amount (answer w) = answer (length w)
+amount (refuse n p) = refuse n p
+
+-- the lent memory after the call, from what it held before
+abbrev pub filled : Outcome (List ℕ) → List ℕ → List ℕ
+filled (answer w) old = w ++ drop (length w) old
+filled (refuse n p) old = old

@@ -1,0 +1,5 @@
+pub mod Refusal
+pub mod Outcome
+pub mod Counted
+pub mod Filled
+pub mod Window
