@@ -1,14 +1,10 @@
 use borrow.Author.Tests.{le-leb, lt-leb}
 use Rattle.answer.proofs.window_fits.Statement.{statement}
 use Rattle.answer.proofs.window_fits.Tie as tie
-use Rattle.answer.proofs.window_fits.Reads as reads
-use Rattle.answer.proofs.window_fits.Lts as lts
 
--- src/lib.rt:72:9
 returns : tie.Need-returns
 returns c = simp (lt-leb _ _ (c .if1 .taken))
 
--- src/lib.rt:68:1
 returns-2 : tie.Need-returns-2
 returns-2 c = simp (le-leb _ _ (c .if1 .left))
 

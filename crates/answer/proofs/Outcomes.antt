@@ -1,0 +1,25 @@
+-- What an answer says of the tests before it: a definition that answers passed each of its `need`s.
+use Prim.Native.Nat.{ℕ}
+use native.Mathlib.Omega.{arith}
+use mathlib.Core.Path.{_≡_, refl, sym}
+use mathlib.Core.Bool.{Bool, true, false}
+use Rattle.answer.specs.Outcome.{Outcome, answer, refuse, needAt, andThen}
+
+-- an answer is no refusal
+pub answer-is-no-refusal : {A : Type 0} {a : A} {n p : ℕ} → answer a ≡ refuse n p → ⊥
+answer-is-no-refusal e = let z : _≡_ {A = ℕ} 0 1 = cc in omega arith
+
+pub answer-injective : {A : Type 0} {a b : A} → answer a ≡ answer b → a ≡ b
+answer-injective e = cc
+
+-- behind a test that was passed stands what was answered
+pub passed : {A : Type 0} (place : ℕ) (test : Bool) (number : ℕ) (o : Outcome A) (a : A) → needAt place test number o ≡ answer a
+    → (test ≡ true) × (o ≡ answer a)
+passed place true number o a e = (refl, e)
+passed place false number o a e = absurd (answer-is-no-refusal (sym e))
+
+-- a chain that answers has an answer in its first link
+pub first-answered : {A B : Type 0} (o : Outcome A) (f : A → Outcome B) (b : B) → andThen o f ≡ answer b
+    → (a : A) × (o ≡ answer a) × (f a ≡ answer b)
+first-answered (answer a) f b e = (a, refl, e)
+first-answered (refuse n p) f b e = absurd (answer-is-no-refusal (sym e))

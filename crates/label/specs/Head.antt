@@ -1,0 +1,42 @@
+-- Bytes 0-11 of a label (document 01, the table of "The label": bytes 0-3 the agency, 4 the version, 5 the class,
+-- 6-7 `00`, 8-11 the description). Characters are ASCII: `A` is 65, `Z` 90, `0` 48, `9` 57.
+use Prim.Native.Nat.{ℕ, _+_}
+use mathlib.Core.Bool.{Bool, _&&_, _||_}
+use mathlib.Core.List.{List}
+use lib.ListN.{getD}
+use lib.Dec.{leb, eqb}
+use Rattle.label.specs.declared.Four.{Four}
+
+-- one of `A` to `Z`
+abbrev pub isCapital : ℕ → Bool
+isCapital b = leb 65 b && leb b 90
+
+-- one of `0` to `9`
+abbrev pub isDigit : ℕ → Bool
+isDigit b = leb 48 b && leb b 57
+
+-- four characters from place i on
+abbrev pub fourAt : List ℕ → ℕ → Four
+fourAt s i = record { a = getD s i 0; b = getD s (i + 1) 0; c = getD s (i + 2) 0; d = getD s (i + 3) 0 }
+
+-- the four characters are these
+abbrev pub spells : Four → ℕ → ℕ → ℕ → ℕ → Bool
+spells f a b c d = eqb (f .a) a && eqb (f .b) b && (eqb (f .c) c && eqb (f .d) d)
+
+-- `NJPL` or `CCSD`
+abbrev pub isAgency : Four → Bool
+isAgency f = spells f 78 74 80 76 || spells f 67 67 83 68
+
+-- each an upper-case letter or digit
+abbrev pub isDescription : Four → Bool
+isDescription f =
+    (isCapital (f .a) || isDigit (f .a)) && (isCapital (f .b) || isDigit (f .b))
+    && ((isCapital (f .c) || isDigit (f .c)) && (isCapital (f .d) || isDigit (f .d)))
+
+-- bytes 4 to 7: `1`, the class, `00`
+abbrev pub isForm : Four → Bool
+isForm f = eqb (f .a) 49 && isCapital (f .b) && (eqb (f .c) 48 && eqb (f .d) 48)
+
+-- bytes 0-11 are as the table says
+abbrev pub headGood : List ℕ → Bool
+headGood s = isAgency (fourAt s 0) && (isForm (fourAt s 4) && isDescription (fourAt s 8))

@@ -1,0 +1,4 @@
+pub mod Head
+pub mod Length
+pub mod Opened
+pub mod Label

@@ -1,0 +1,206 @@
+// The 20-byte CCSDS label of one object: read from bytes and written to them. Renders document 01,
+// "The label" (CCSDS 620.0 version 1; source documents 001, section 3.5.12, and 004, section
+// 4.4.146). How labelled objects stand in a file is left to the crates above.
+use answer::Count;
+use answer::Refusal;
+ghost use mathlib.Core.Path.{_≡_};
+ghost use Prim.Native.Nat.{_+_, _%_, _≤_, _<_};
+ghost use mathlib.Core.Bool.{_||_};
+ghost use lib.ListN.{length, drop, length as size};
+ghost use Rattle.answer.specs.Counted.{counted};
+ghost use Rattle.answer.specs.Filled.{Writes};
+ghost use Rattle.label.specs.Head.{isCapital, isDigit, isAgency, isForm, isDescription, headGood, fourAt};
+ghost use Rattle.label.specs.Length.{lengthOf, fieldRead, digitsOf};
+ghost use Rattle.label.specs.Opened.{isOpened};
+ghost use Rattle.label.specs.Label.{told, labelOf, readLabel, writeLabel};
+
+// Four characters of a label: an agency or a description.
+pub struct Four {
+    pub a: u8,
+    pub b: u8,
+    pub c: u8,
+    pub d: u8,
+}
+
+// What a label says. `length` is the number of bytes after the label: its value.
+pub struct Label {
+    pub agency: Four,
+    pub class: u8,
+    pub description: Four,
+    pub length: usize,
+}
+
+// A label that was read, or refusal 1, 2 or 3.
+pub enum LabelRead {
+    Is(Label),
+    Refused(Refusal, usize),
+}
+
+// A length field that was read; `Bad` where a byte is no digit.
+enum Field {
+    Is(usize),
+    Bad,
+}
+
+fn wide(b: u8) -> usize
+    ensures { λ r. ⌜ (r ≡ b) × (r < 256) ⌝ }
+{
+    b as usize
+}
+
+// Whether a value of this class is itself divided into labelled objects.
+pub fn is_opened(class: u8) -> bool
+    ensures { λ r. ⌜ r ≡ isOpened class ⌝ }
+{
+    class == 90
+}
+
+// An upper-case letter or a digit.
+fn is_code(b: u8) -> bool
+    ensures { λ r. ⌜ r ≡ isCapital b || isDigit b ⌝ }
+{
+    ((65 <= b) & (b <= 90)) | ((48 <= b) & (b <= 57))
+}
+
+fn is_agency(f: Four) -> bool
+    ensures { λ r. ⌜ r ≡ isAgency f ⌝ }
+{
+    let njpl = (f.a == 78) & (f.b == 74) & ((f.c == 80) & (f.d == 76));
+    let ccsd = (f.a == 67) & (f.b == 67) & ((f.c == 83) & (f.d == 68));
+    njpl | ccsd
+}
+
+fn is_form(f: Four) -> bool
+    ensures { λ r. ⌜ r ≡ isForm f ⌝ }
+{
+    (f.a == 49) & ((65 <= f.b) & (f.b <= 90)) & ((f.c == 48) & (f.d == 48))
+}
+
+fn is_description(f: Four) -> bool
+    ensures { λ r. ⌜ r ≡ isDescription f ⌝ }
+{
+    is_code(f.a) & is_code(f.b) & (is_code(f.c) & is_code(f.d))
+}
+
+// Four characters of `s` from place `i` on.
+fn four_at(s: &[u8], i: usize) -> Four
+    requires { ⌜ i + 4 ≤ length (now s) ⌝ }
+    ensures { λ r. ⌜ r ≡ fourAt (now (s .entry)) i ⌝ }
+{
+    Four {
+        a: s[i],
+        b: s[i + 1],
+        c: s[i + 2],
+        d: s[i + 3],
+    }
+}
+
+// Whether bytes 0-11 are those of a label.
+fn head_is_good(s: &[u8]) -> bool
+    requires { ⌜ 12 ≤ length (now s) ⌝ }
+    ensures { λ r. ⌜ r ≡ headGood (now (s .entry)) ⌝ }
+{
+    is_agency(four_at(s, 0)) & (is_form(four_at(s, 4)) & is_description(four_at(s, 8)))
+}
+
+// The length field of a label's twenty bytes.
+fn length_field(b: &[u8]) -> Field
+    requires { ⌜ length (now b) ≡ 20 ⌝ }
+    ensures { λ r. ⌜ fieldRead r ≡ lengthOf (drop 12 (now (b .entry))) ⌝ }
+{
+    let mut n: usize = 0;
+    let mut i: usize = 0;
+    while i < 8 {
+        let digit = wide(b[12 + i]);
+        if digit < 48 {
+            return Field::Bad;
+        }
+        if 57 < digit {
+            return Field::Bad;
+        }
+        n = n * 10 + (digit - 48);
+        i += 1;
+    }
+    Field::Is(n)
+}
+
+// The label that twenty bytes are.
+fn label_of(b: &[u8]) -> LabelRead
+    requires { ⌜ length (now b) ≡ 20 ⌝ }
+    ensures { λ r. ⌜ told r ≡ labelOf (now (b .entry)) ⌝ }
+{
+    if !head_is_good(b) {
+        return LabelRead::Refused(Refusal::BadLabel, 0);
+    }
+    match length_field(b) {
+        Field::Is(n) => LabelRead::Is(Label {
+            agency: four_at(b, 0),
+            class: b[5],
+            description: four_at(b, 8),
+            length: n,
+        }),
+        Field::Bad => LabelRead::Refused(Refusal::BadLength, 0),
+    }
+}
+
+// The label at the front of `s`: 1, 2, 3 in that order, at place 0.
+pub fn read_label(s: &[u8]) -> LabelRead
+    ensures { λ r. ⌜ told r ≡ readLabel (now (s .entry)) ⌝ }
+{
+    if s.len() < 20 {
+        return LabelRead::Refused(Refusal::Short, 0);
+    }
+    label_of(&s[..20])
+}
+
+fn digit_of(n: usize) -> u8
+    ensures { λ r. ⌜ r ≡ 48 + n % 10 ⌝ }
+{
+    48 + (n % 10) as u8
+}
+
+// The last eight decimal digits of a number, as characters.
+fn eight_digits(n: usize) -> [u8; 8]
+    ensures { λ r. ⌜ r ≡ digitsOf 8 n ⌝ }
+{
+    let n1 = n / 10;
+    let n2 = n1 / 10;
+    let n3 = n2 / 10;
+    let n4 = n3 / 10;
+    let n5 = n4 / 10;
+    let n6 = n5 / 10;
+    let n7 = n6 / 10;
+    [
+        digit_of(n7),
+        digit_of(n6),
+        digit_of(n5),
+        digit_of(n4),
+        digit_of(n3),
+        digit_of(n2),
+        digit_of(n1),
+        digit_of(n),
+    ]
+}
+
+// Writes the label with bytes 0-11 as lent and this length to the first 20 bytes of `out`.
+pub fn write_label(head: &[u8], length: usize, out: &mut [u8]) -> Count
+    ensures { λ r. ⌜ Writes (writeLabel (now (head .entry)) «length» (size (now (out .entry))))
+        (now (out .entry)) (counted r) (now (out .exit)) ⌝ }
+{
+    if head.len() != 12 {
+        return Count::Refused(Refusal::BadLabel, 0);
+    }
+    if !head_is_good(head) {
+        return Count::Refused(Refusal::BadLabel, 0);
+    }
+    if 99999999 < length {
+        return Count::Refused(Refusal::TooLong, 0);
+    }
+    if out.len() < 20 {
+        return Count::Refused(Refusal::Small, 0);
+    }
+    let digits = eight_digits(length);
+    bytes::copy(head, out);
+    bytes::copy(&digits, &mut out[12..]);
+    Count::Is(20)
+}
