@@ -1,3 +1,4 @@
+-- `answer::bytes_of` meets its contract: past the file's end, up to its end, or inside it.
 use mathlib.Core.Path.{sym}
 use native.Mathlib.Nat.{le-of-lt}
 use denote.Ref.{now}

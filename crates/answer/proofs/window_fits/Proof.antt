@@ -1,3 +1,4 @@
+-- `answer::window_fits` meets its contract: the first test decides whether the difference is taken.
 use borrow.Author.Tests.{le-leb, lt-leb}
 use Rattle.answer.proofs.window_fits.Statement.{statement}
 use Rattle.answer.proofs.window_fits.Tie as tie

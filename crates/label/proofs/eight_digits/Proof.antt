@@ -1,3 +1,4 @@
+-- `label::eight_digits` meets its contract: each digit is the remainder of the quotients before it.
 use borrow.Author.Needs.{needs}
 use Rattle.label.proofs.eight_digits.Statement.{statement}
 use Rattle.label.proofs.eight_digits.Tie as tie

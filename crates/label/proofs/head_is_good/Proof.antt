@@ -1,3 +1,5 @@
+-- `label::head_is_good` meets its contract: the three groups of four bytes are tested as `headGood` tests them.
+use mathlib.Core.Bool.{_&&_}
 use mathlib.Core.Path.{_∙_, ap, ap₂}
 use Rattle.label.specs.Head.{isAgency, isForm, isDescription}
 use borrow.Author.Needs.{needs}

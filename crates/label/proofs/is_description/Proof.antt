@@ -1,3 +1,4 @@
+-- `label::is_description` meets its contract: each of the four tests is its definition.
 use borrow.Author.Needs.{needs}
 use Rattle.label.proofs.is_description.Statement.{statement}
 use Rattle.label.proofs.is_description.Tie as tie

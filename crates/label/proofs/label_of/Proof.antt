@@ -1,3 +1,4 @@
+-- `label::label_of` meets its contract: the head's test, then the length field, as `labelOf` asks them.
 use Prim.Native.Nat.{ℕ}
 use mathlib.Core.Path.{_∙_, sym, ap, ap₂}
 use mathlib.Core.List.{List}

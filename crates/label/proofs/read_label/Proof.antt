@@ -1,3 +1,4 @@
+-- `label::read_label` meets its contract: fewer than twenty bytes, or the label that the first twenty are.
 use denote.Ref.{now}
 use lib.Seq.{length-take-le}
 use mathlib.Core.Path.{_∙_, sym}

@@ -1,3 +1,5 @@
+-- `label::write_label` meets its contract: each refusal leaves the buffer as it was; else the head and the digits are its
+-- first twenty bytes.
 use native.Mathlib.Omega.{arith}
 use mathlib.Core.Path.{_≡_, _∙_, sym, ap}
 use lib.ListN.{length, length-append}
