@@ -23,3 +23,13 @@ pub first-answered : {A B : Type 0} (o : Outcome A) (f : A → Outcome B) (b : B
     → (a : A) × (o ≡ answer a) × (f a ≡ answer b)
 first-answered (answer a) f b e = (a, refl, e)
 first-answered (refuse n p) f b e = absurd (answer-is-no-refusal (sym e))
+
+-- what follows may be replaced by what agrees with it on every answer
+pub andThen-agrees : {A B : Type 0} (o : Outcome A) (f g : A → Outcome B) → ((a : A) → f a ≡ g a) → andThen o f ≡ andThen o g
+andThen-agrees (answer a) f g h = h a
+andThen-agrees (refuse n p) f g h = refl
+
+-- a chain whose links after the first only answer is refused where the first is
+pub refused-first : {A B : Type 0} (o : Outcome A) (f : A → B) {n p : ℕ} → andThen o (λ a. answer (f a)) ≡ refuse n p → o ≡ refuse n p
+refused-first (answer a) f e = absurd (answer-is-no-refusal e)
+refused-first (refuse n p) f e = cc

@@ -1,0 +1,195 @@
+-- The nested check, in its loop's own terms. `Sofar` is the loop's invariant: what was passed holds so many rows, and the
+-- scan of the whole part is the scan of what is left with those rows found. Each arm of the loop is one law.
+use Prim.Native.Nat.{ℕ, zero, suc, _+_, _-_, _≤_, _<_}
+use native.Mathlib.Nat.{not-suc-le-zero}
+use native.Mathlib.Omega.{arith}
+use mathlib.Core.Path.{_≡_, refl, _∙_, sym, ap, ap₂}
+use mathlib.Core.Bool.{Bool, true, false}
+use mathlib.Core.List.{List, [], _∷_, _++_}
+use lib.ListN.{length, take, drop, length-append, length-drop, length-take, drop-of-length-le}
+use lib.Seq.{drop-drop, length-take-le}
+use Rattle.answer.specs.Outcome.{Outcome, answer, refuse, andThen}
+use Rattle.answer.proofs.Outcomes.{first-answered, answer-injective, answer-is-no-refusal, refused-first}
+use Rattle.answer.proofs.Parts.{from-to, all-that-is-left}
+use Rattle.label.specs.declared.Label.{Label}
+use Rattle.label.specs.Opened.{isOpened}
+use Rattle.sfdu.specs.Row.{Row}
+use Rattle.sfdu.specs.Scan.{Inside, object, rowsOf, level, objects}
+use Rattle.sfdu.specs.Check.{counting, Checked}
+use Rattle.sfdu.proofs.Steps.{at-the-end, bad-object, one-object, taken}
+
+-- how the values of opened objects at this depth are scanned
+abbrev pub inner : ℕ → ℕ → Inside
+inner left depth = λ top place value. objects left (suc depth) (λ _. top) place value
+
+-- with a depth left, a scan goes through the objects side by side
+pub objects-are-a-level : (left depth : ℕ) (outermost : ℕ → ℕ) (at : ℕ) (s : List ℕ) → 0 < left
+    → objects left depth outermost at s ≡ level (inner (left - 1) depth) depth outermost at [] 0 s
+unfolding objects
+objects-are-a-level zero depth outermost at s h = absurd (not-suc-le-zero h)
+objects-are-a-level (suc left) depth outermost at s h =
+    ap (λ (k : ℕ). level (inner k depth) depth outermost at [] 0 s) one-less
+  where
+    one-less : left ≡ suc left - 1
+    one-less = omega arith
+
+-- no bytes, no rows
+pub nothing-to-scan : (left depth : ℕ) (outermost : ℕ → ℕ) (at : ℕ) → objects left depth outermost at [] ≡ answer []
+unfolding objects level
+nothing-to-scan zero depth outermost at = refl
+nothing-to-scan (suc left) depth outermost at = refl
+
+pub too-deep : (depth : ℕ) (outermost : ℕ → ℕ) (at : ℕ) (s : List ℕ) → 0 < length s → objects 0 depth outermost at s ≡ refuse 5 at
+unfolding objects
+too-deep depth outermost at [] h = absurd (not-suc-le-zero h)
+too-deep depth outermost at (b ∷ bs) h = refl
+
+pub record Sofar (part : List ℕ) (base left at rows : ℕ) : Type 0 where
+  pub within : at ≤ length part
+  pub few : rows ≤ at
+  pub scanned : (depth : ℕ) (outermost : ℕ → ℕ) → (found : List Row) × (length found ≡ rows)
+      × (objects left depth outermost base part ≡ level (inner (left - 1) depth) depth outermost (base + at) found 0 (drop at part))
+
+module _ (part : List ℕ) (base left : ℕ) where
+  pub starts : 0 < left → Sofar part base left 0 0
+  starts h = record {
+    within = omega arith;
+    few = omega arith;
+    scanned = λ depth outermost. (
+      [],
+      refl,
+      objects-are-a-level left depth outermost base part h
+          ∙ ap (λ (p : ℕ). level (inner (left - 1) depth) depth outermost p [] 0 part) (omega arith),
+    );
+  }
+
+  pub no-bytes : length part ≡ 0 → Checked part base left (answer 0)
+  no-bytes h = record {
+    counts = λ depth outermost. sym (ap counting (ap (objects left depth outermost base) (empty part h) ∙ nothing-to-scan left depth outermost base));
+    few = λ n e. omega (arith, answer-injective e);
+  }
+    where
+      empty : (s : List ℕ) → length s ≡ 0 → s ≡ []
+      empty [] e = refl
+      empty (b ∷ bs) e = absurd (omega arith)
+
+  pub deepest : left ≡ 0 → (length part ≡ 0 → ⊥) → Checked part base left (refuse 5 base)
+  deepest none some = record {
+    counts = λ depth outermost.
+        sym (ap counting (ap (λ (k : ℕ). objects k depth outermost base part) none ∙ too-deep depth outermost base part (omega arith)));
+    few = λ n e. absurd (answer-is-no-refusal (sym e));
+  }
+
+  module _ (at rows : ℕ) (sofar : Sofar part base left at rows) where
+    pub ends : length part ≤ at → Checked part base left (answer rows)
+    ends h = record {
+      counts = λ depth outermost.
+          let (found, many, is) = sofar .scanned depth outermost in
+          sym (ap counting (is ∙ ap (level (inner (left - 1) depth) depth outermost (base + at) found 0) (drop-of-length-le part h)
+          ∙ at-the-end (inner (left - 1) depth) depth outermost (base + at) found 0) ∙ ap answer many);
+      few = λ n e. omega (arith, answer-injective e, sofar .few, sofar .within);
+    }
+
+    module _ (more : at < length part) where
+      left-over : 0 < length (drop at part)
+      left-over = omega (arith, length-drop at part)
+
+      pub faulty : (n p : ℕ) → object (drop at part) ≡ refuse n p → Checked part base left (refuse n (base + at))
+      faulty n p e = record {
+        counts = λ depth outermost.
+            let (found, many, is) = sofar .scanned depth outermost in
+            sym (ap counting (is ∙ bad-object (inner (left - 1) depth) depth outermost (base + at) found (drop at part) left-over n p e));
+        few = λ k z. absurd (answer-is-no-refusal (sym z));
+      }
+
+      module _ (l : Label) (e : object (drop at part) ≡ answer l) where
+        -- the object ends inside the part
+        pub ends-inside : at + 20 + l .length ≤ length part
+        ends-inside = omega (arith, length-drop at part, taken (drop at part) l e .long, taken (drop at part) l e .fits)
+
+        value-is : take (l .length) (drop 20 (drop at part)) ≡ take (at + 20 + l .length - (at + 20)) (drop (at + 20) part)
+        value-is = ap (take (l .length)) (drop-drop 20 at part) ∙ sym (from-to part (at + 20) (l .length))
+
+        -- the value as the code cuts it
+        abbrev value : List ℕ
+        value = take (at + 20 + l .length - (at + 20)) (drop (at + 20) part)
+
+        -- what follows the object, once its rows are known
+        abbrev after : ℕ → (ℕ → ℕ) → List Row → List Row → Outcome (List Row)
+        after depth outermost found rs =
+            level (inner (left - 1) depth) depth outermost (base + (at + 20 + l .length)) (found ++ rs) 0 (drop (at + 20 + l .length) part)
+
+        goes-on : (depth : ℕ) (outermost : ℕ → ℕ) (found : List Row)
+            → level (inner (left - 1) depth) depth outermost (base + at) found 0 (drop at part)
+            ≡ andThen (rowsOf (inner (left - 1) depth) depth (outermost (base + at)) (base + at) (isOpened (l .class)) (l .length) value)
+            (after depth outermost found)
+        goes-on depth outermost found =
+            one-object (inner (left - 1) depth) depth outermost (base + at) found (drop at part) left-over l e
+            ∙ ap₂ (λ (v : List ℕ) (f : List Row → Outcome (List Row)).
+            andThen (rowsOf (inner (left - 1) depth) depth (outermost (base + at)) (base + at) (isOpened (l .class)) (l .length) v) f)
+            value-is
+            (ap₂ (λ (p : ℕ) (s : List ℕ). λ (rs : List Row). level (inner (left - 1) depth) depth outermost p (found ++ rs) 0 s)
+            place-is (drop-drop (20 + l .length) at part ∙ ap (λ (k : ℕ). drop k part) end-is))
+          where
+            place-is : base + at + (20 + l .length) ≡ base + (at + 20 + l .length)
+            place-is = omega arith
+
+            end-is : at + (20 + l .length) ≡ at + 20 + l .length
+            end-is = omega arith
+
+        pub leaf-passed : isOpened (l .class) ≡ false → Sofar part base left (at + 20 + l .length) (rows + 1)
+        leaf-passed closed = record {
+          within = ends-inside;
+          few = omega (arith, sofar .few);
+          scanned = λ depth outermost.
+              let (found, many, is) = sofar .scanned depth outermost in
+              let row : Row = record { label = base + at; size = l .length; depth = depth; outermost = outermost (base + at) } in
+              (found ++ (row ∷ []), length-append found (row ∷ []) ∙ ap (λ (k : ℕ). k + 1) many, is ∙ goes-on depth outermost found ∙ rw closed);
+        }
+
+        module _ (opened : isOpened (l .class) ≡ true) where
+          goes-inside : (depth : ℕ) (outermost : ℕ → ℕ) (found : List Row) (o : Outcome (List Row))
+              → inner (left - 1) depth (outermost (base + at)) (base + at + 20) value ≡ o
+              → level (inner (left - 1) depth) depth outermost (base + at) found 0 (drop at part) ≡ andThen o (after depth outermost found)
+          goes-inside depth outermost found o e =
+              goes-on depth outermost found
+              ∙ ap (λ (t : Bool). andThen
+              (rowsOf (inner (left - 1) depth) depth (outermost (base + at)) (base + at) t (l .length) value) (after depth outermost found)) opened
+              ∙ ap (λ (x : Outcome (List Row)). andThen x (after depth outermost found)) e
+
+          pub group-passed : (n : ℕ) → Checked value (base + at + 20) (left - 1) (answer n)
+              → Sofar part base left (at + 20 + l .length) (rows + n)
+          group-passed n checked = record {
+            within = ends-inside;
+            few = omega (arith, sofar .few, checked .few n refl, small);
+            scanned = λ depth outermost.
+                let (found, many, is) = sofar .scanned depth outermost in
+                let (rs, rows-are, count-is) = first-answered (inner (left - 1) depth (outermost (base + at)) (base + at + 20) value) _ n
+                (sym (checked .counts (suc depth) (λ _. outermost (base + at)))) in (
+                  found ++ rs,
+                  length-append found rs ∙ ap₂ _+_ many (answer-injective count-is),
+                  is ∙ goes-inside depth outermost found (answer rs) rows-are,
+                );
+          }
+            where
+              small : length value ≤ l .length
+              small = omega (arith, length-take (at + 20 + l .length - (at + 20)) (drop (at + 20) part))
+
+          pub group-faulty : (n p : ℕ) → Checked value (base + at + 20) (left - 1) (refuse n p) → Checked part base left (refuse n p)
+          group-faulty n p checked = record {
+            counts = λ depth outermost.
+                let (found, many, is) = sofar .scanned depth outermost in
+                let fault = refused-first (inner (left - 1) depth (outermost (base + at)) (base + at + 20) value) length
+                (sym (checked .counts (suc depth) (λ _. outermost (base + at)))) in
+                sym (ap counting (is ∙ goes-inside depth outermost found (refuse n p) fault));
+            few = λ k z. absurd (answer-is-no-refusal (sym z));
+          }
+
+-- what was read of `&part[at..]` is what stands at that place of the part
+pub seen-at : (part : List ℕ) (at : ℕ) {o : Outcome Label} → o ≡ object (take (length part - at) (drop at part)) → object (drop at part) ≡ o
+seen-at part at e = ap object (sym (all-that-is-left part at)) ∙ sym e
+
+-- how long a value is, as the code cuts it
+pub part-length : (part : List ℕ) (body size : ℕ) → body + size ≤ length part → length (take (body + size - body) (drop body part)) ≡ size
+part-length part body size h =
+    ap length (from-to part body size) ∙ length-take-le size (drop body part) (omega (arith, length-drop body part))

@@ -1,0 +1,4 @@
+pub mod Row
+pub mod Scan
+pub mod Forest
+pub mod Check

@@ -1,0 +1,17 @@
+-- A row of a labelled file and its address (document 01: "The rows of a labelled file are its leaves in file order,
+-- numbered from 0; the bytes of a row are the leaf's value").
+use Prim.Native.Nat.{ℕ, _+_}
+
+pub record Row : Type 0 where
+  -- the place of its label, counted from the file's first byte
+  pub label : ℕ
+  -- how many bytes its value has
+  pub size : ℕ
+  -- how deep its label stands: 1 at the outermost level
+  pub depth : ℕ
+  -- the place of the label of the outermost object that it lies in; its own at depth 1
+  pub outermost : ℕ
+
+-- the place of a row's first byte: its value stands after the twenty bytes of its label
+abbrev pub valueAt : Row → ℕ
+valueAt r = r .label + 20
