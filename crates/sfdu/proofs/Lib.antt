@@ -1,3 +1,5 @@
 pub mod Steps
 pub mod Nested
 pub mod Checking
+pub mod Forests
+pub mod Exact

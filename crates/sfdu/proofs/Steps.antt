@@ -48,7 +48,7 @@ pub label-not-read : (s : List ℕ) (n p : ℕ) → readLabel s ≡ refuse n p �
 unfolding object
 label-not-read s n p e = rw e
 
-one-more : (n : ℕ) → suc (19 + n) ≡ 20 + n
+pub one-more : (n : ℕ) → suc (19 + n) ≡ 20 + n
 one-more n = omega arith
 
 module _ (inside : Inside) (depth : ℕ) (outermost : ℕ → ℕ) where

@@ -1,0 +1,63 @@
+-- Demand 2's "exactly", for labelled files: what the check promises, told by the grammar. These are the theorems that
+-- answer the auditor's second question; the work is in `Forests`.
+use Prim.Native.Nat.{ℕ, _≤_}
+use mathlib.Core.Path.{_≡_, _∙_, sym, ap}
+use mathlib.Core.Logic.{_↔_}
+use mathlib.Core.List.{List}
+use lib.ListN.{length}
+use Rattle.answer.specs.Outcome.{answer}
+use Rattle.answer.proofs.Outcomes.{first-answered, answer-injective}
+use Rattle.sfdu.specs.Row.{Row}
+use Rattle.sfdu.specs.Scan.{scan}
+use Rattle.sfdu.specs.Forest.{Forest, encode, Valid, leaves, forestOf}
+use Rattle.sfdu.specs.Check.{counting, rowsOfFile, checkLabelled}
+use Rattle.sfdu.proofs.Checking.{accepted-says, not-too-big}
+use Rattle.sfdu.proofs.Forests.{valid-is-accepted-from, accepted-divides-from, forest-again}
+
+-- the forest of a file, at depths 1 to 8
+abbrev pub forestOfFile : List ℕ → Forest
+forestOfFile f = forestOf 8 f
+
+-- the leaves of a file's forest, as rows
+abbrev pub fileLeaves : Forest → List Row
+fileLeaves F = leaves 1 (λ at. at) 0 F
+
+-- this forest divides the file, with no gap and no overlap, and these are its leaves
+pub record DividesFile (f : List ℕ) (rows : List Row) (F : Forest) : Type 0 where
+  pub bytes : encode F ≡ f
+  pub valid : Valid 8 F
+  pub rows-are : fileLeaves F ≡ rows
+
+-- where the scan finds rows, the file's forest divides it and these are its leaves
+pub accepted-divides : (f : List ℕ) (rows : List Row) → scan f ≡ answer rows → DividesFile f rows (forestOfFile f)
+unfolding scan
+accepted-divides f rows e =
+    let d = accepted-divides-from 8 1 (λ at. at) 0 f rows e in
+    record { bytes = d .bytes; valid = d .valid; rows-are = d .rows-are }
+
+-- where some forest divides the file, the scan finds its leaves
+pub dividing-is-accepted : (f : List ℕ) (rows : List Row) (F : Forest) → DividesFile f rows F → scan f ≡ answer rows
+unfolding scan
+dividing-is-accepted f rows F d =
+    ap scan (sym (d .bytes)) ∙ valid-is-accepted-from 8 1 (λ at. at) 0 F (d .valid) ∙ ap answer (d .rows-are)
+
+-- the scan finds rows exactly when there is a forest that divides the file into them
+pub exact : (f : List ℕ) (rows : List Row) → (scan f ≡ answer rows) ↔ ((F : Forest) × DividesFile f rows F)
+exact f rows = ((λ e. (forestOfFile f, accepted-divides f rows e)), (λ d. dividing-is-accepted f rows (d .0) (d .1)))
+
+-- and that forest is the only one
+pub only-one-forest : (F G : Forest) → Valid 8 F → Valid 8 G → encode F ≡ encode G → F ≡ G
+only-one-forest F G v w e = sym (forest-again 8 F v) ∙ ap (forestOf 8) e ∙ forest-again 8 G w
+
+-- the check's answer: a count exactly when a file that is not too big divides into that many rows
+pub check-is-exact : (f : List ℕ) (n : ℕ)
+    → (checkLabelled f ≡ answer n)
+    ↔ ((F : Forest) × (rows : List Row) × (length f ≤ 4294967295) × DividesFile f rows F × (length rows ≡ n))
+unfolding checkLabelled
+check-is-exact f n = (
+  (λ e.
+      let (rows, is, many) = first-answered (rowsOfFile f) (λ rs. answer (length rs)) n e in
+      let (small, found) = accepted-says f rows is in
+      (forestOfFile f, rows, small, accepted-divides f rows found, answer-injective many)),
+  (λ d. ap counting (not-too-big f (d .2) ∙ dividing-is-accepted f (d .1) (d .0) (d .3)) ∙ ap answer (d .4)),
+)
