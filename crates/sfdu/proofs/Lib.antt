@@ -1,4 +1,6 @@
 pub mod Steps
+pub mod Walking
+pub mod WalkLoop
 pub mod Nested
 pub mod Checking
 pub mod Forests

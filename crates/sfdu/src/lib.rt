@@ -3,6 +3,7 @@
 // windows are left to the crates above.
 use answer::Count;
 use answer::Refusal;
+use label::Label;
 use label::LabelRead;
 ghost use mathlib.Core.Path.{_≡_};
 ghost use Prim.Native.Nat.{_+_, _≤_};
@@ -10,6 +11,7 @@ ghost use lib.ListN.{length};
 ghost use Rattle.answer.specs.Counted.{counted};
 ghost use Rattle.label.specs.Label.{told};
 ghost use Rattle.sfdu.specs.Scan.{object};
+ghost use Rattle.sfdu.specs.Walk.{walkedTo, walkFrom, stepped, stepAt};
 ghost use Rattle.sfdu.specs.Check.{Checked, checkLabelled};
 
 // The largest file that is taken, in bytes.
@@ -85,4 +87,76 @@ pub fn check(file: &[u8]) -> Count
         return Count::Refused(Refusal::TooBig, 0);
     }
     check_part(file, 0, DEPTHS)
+}
+
+// A leaf: the place of its label, and what the label says.
+pub struct Leaf {
+    pub place: usize,
+    pub label: Label,
+}
+
+// The leaf that a walk came to, or a refusal with its place.
+pub enum Walked {
+    Is(Leaf),
+    Refused(Refusal, usize),
+}
+
+// What a walk finds at a label: an opened object, or a leaf that ends inside the file.
+enum Step {
+    Open,
+    Closed(Label),
+    Fault(Refusal, usize),
+}
+
+// The label at the front of `s`, as a walk takes it.
+fn step_at(s: &[u8]) -> Step
+    ensures { λ r. ⌜ stepped r ≡ stepAt (now (s .entry)) ⌝ }
+{
+    match label::read_label(s) {
+        LabelRead::Refused(why, place) => Step::Fault(why, place),
+        LabelRead::Is(l) => {
+            if label::is_opened(l.class) {
+                return Step::Open;
+            }
+            let left = s.len() - 20;
+            if left < l.length {
+                return Step::Fault(Refusal::Overrun, 0);
+            }
+            Step::Closed(l)
+        }
+    }
+}
+
+// Walks forward from place `from`, passing so many leaves, to the next leaf. It reads no more of
+// the file than it passes.
+pub fn walk_from(file: &[u8], from: usize, leaves: usize) -> Walked
+    ensures { λ r. ⌜ walkedTo r ≡ walkFrom (now (file .entry)) from leaves ⌝ }
+{
+    if file.len() < from {
+        return Walked::Refused(Refusal::BadIndex, 0);
+    }
+    let mut at = from;
+    let mut k = leaves;
+    while at < file.len() {
+        match step_at(&file[at..]) {
+            Step::Fault(why, _) => {
+                return Walked::Refused(why, at);
+            }
+            Step::Open => {
+                at = at + 20;
+            }
+            Step::Closed(l) => {
+                if k == 0 {
+                    return Walked::Is(Leaf {
+                        place: at,
+                        label: l,
+                    });
+                }
+                k = k - 1;
+                let body = at + 20;
+                at = body + l.length;
+            }
+        }
+    }
+    Walked::Refused(Refusal::NoRow, 0)
 }

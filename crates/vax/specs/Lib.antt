@@ -1,0 +1,4 @@
+pub mod Decoded
+pub mod Fields
+pub mod Numbers
+pub mod Exact

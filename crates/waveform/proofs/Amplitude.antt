@@ -1,0 +1,39 @@
+-- The numbers that sample bytes stand for: from −255 to 255, so that a signed integer of 64 bits holds them, and never 0.
+use Prim.Native.Nat.{ℕ, suc, _*_, _-_, _≤_, _<_}
+use native.Mathlib.Omega.{arith}
+use mathlib.Core.Path.{_≡_, refl}
+use mathlib.Core.Bool.{Bool, true, false, cond}
+use lib.IntN.{ℤ, pos, negsuc, natAbs}
+use lib.Dec.{ltb}
+use borrow.Author.Tests.{ltb-false}
+use mir.Syntax.{w64}
+use mir.Val.{SFits}
+use Rattle.waveform.specs.Sample.{twiceAmplitude}
+
+-- twice the amplitude by its sign
+bySign : ℕ → Bool → ℤ
+bySign s below = cond below (negsuc (255 - suc (2 * s))) (pos (2 * s - 255))
+
+pub amplitude-range : (s : ℕ) → s < 256 → natAbs (twiceAmplitude s) ≤ 255
+unfolding bySign
+amplitude-range s h = go (ltb (2 * s) 255)
+  where
+    go : (below : Bool) → natAbs (bySign s below) ≤ 255
+    go true = omega arith
+    go false = omega arith
+
+pub amplitude-fits : (s : ℕ) → s < 256 → SFits w64 (twiceAmplitude s)
+unfolding bySign
+amplitude-fits s h = go (ltb (2 * s) 255)
+  where
+    go : (below : Bool) → SFits w64 (bySign s below)
+    go true = omega arith
+    go false = omega arith
+
+pub amplitude-is-never-0 : (s : ℕ) → twiceAmplitude s ≡ pos 0 → ⊥
+unfolding bySign
+amplitude-is-never-0 s e = go (ltb (2 * s) 255) refl e
+  where
+    go : (below : Bool) → ltb (2 * s) 255 ≡ below → bySign s below ≡ pos 0 → ⊥
+    go true t q = let z : _≡_ {A = ℕ} 0 1 = cc q in omega arith
+    go false t q = let z : 2 * s - 255 ≡ 0 = cc q in omega (arith, ltb-false (2 * s) 255 t)

@@ -1,0 +1,6 @@
+pub mod Rows
+pub mod Check
+pub mod Passing
+pub mod Read
+pub mod Jump
+pub mod Sample
