@@ -33,3 +33,13 @@ andThen-agrees (refuse n p) f g h = refl
 pub refused-first : {A B : Type 0} (o : Outcome A) (f : A → B) {n p : ℕ} → andThen o (λ a. answer (f a)) ≡ refuse n p → o ≡ refuse n p
 refused-first (answer a) f e = absurd (answer-is-no-refusal e)
 refused-first (refuse n p) f e = cc
+
+-- the same, where it agrees on the answer that was given
+pub andThen-agrees-where : {A B : Type 0} (o : Outcome A) (f g : A → Outcome B) → ((a : A) → o ≡ answer a → f a ≡ g a) → andThen o f ≡ andThen o g
+andThen-agrees-where (answer a) f g h = h a refl
+andThen-agrees-where (refuse n p) f g h = refl
+
+-- chains in a row are one chain
+pub andThen-assoc : {A B C : Type 0} (o : Outcome A) (f : A → Outcome B) (g : B → Outcome C) → andThen (andThen o f) g ≡ andThen o (λ a. andThen (f a) g)
+andThen-assoc (answer a) f g = refl
+andThen-assoc (refuse n p) f g = refl

@@ -23,7 +23,7 @@ use Rattle.sfdu.proofs.Steps.{at-the-end, one-more, one-object, Taken, 
 -- ---- a label and its value at the front of some bytes
 
 module _ (label value t : List ℕ) (opened : Bool) (is : IsLabel label opened (length value)) where
-  front-length : length (label ++ (value ++ t)) ≡ 20 + (length value + length t)
+  pub front-length : length (label ++ (value ++ t)) ≡ 20 + (length value + length t)
   front-length = length-append label (value ++ t) ∙ omega (arith, length-append value t, is .twenty)
 
   pub front-is-an-object : object (label ++ (value ++ t)) ≡ answer (is .label)
@@ -44,10 +44,10 @@ module _ (label value t : List ℕ) (opened : Bool) (is : IsLabel label opened (
       ∙ ap (drop (is .label .length)) front-drop
       ∙ drop-at value t (is .label .length) (sym (is .follows))
 
-three : (a b c t : List ℕ) → a ++ (b ++ c) ++ t ≡ a ++ (b ++ (c ++ t))
+pub three : (a b c t : List ℕ) → a ++ (b ++ c) ++ t ≡ a ++ (b ++ (c ++ t))
 three a b c t = simp append-assoc
 
-after : (at : ℕ) (label value rest : List ℕ) → length label ≡ 20
+pub after : (at : ℕ) (label value rest : List ℕ) → length label ≡ 20
     → at + (20 + length value) + length rest ≡ at + length (label ++ (value ++ rest))
 after at label value rest h = omega (arith, h, length-append label (value ++ rest), length-append value rest)
 

@@ -5,3 +5,5 @@ pub mod Nested
 pub mod Checking
 pub mod Forests
 pub mod Exact
+pub mod WalkReads
+pub mod Finding

@@ -3,3 +3,4 @@ pub mod Scan
 pub mod Forest
 pub mod Check
 pub mod Walk
+pub mod Find

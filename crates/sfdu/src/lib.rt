@@ -2,15 +2,20 @@
 // for such an object is SFDU). Renders document 01, "The label", from the nesting on. Indexes and
 // windows are left to the crates above.
 use answer::Count;
+use answer::Part;
 use answer::Refusal;
+use answer::Show;
 use label::Label;
 use label::LabelRead;
 ghost use mathlib.Core.Path.{_≡_};
 ghost use Prim.Native.Nat.{_+_, _≤_};
 ghost use lib.ListN.{length};
 ghost use Rattle.answer.specs.Counted.{counted};
+ghost use Rattle.answer.specs.Outcome.{andThen};
+ghost use Rattle.answer.specs.Window.{shown};
 ghost use Rattle.label.specs.Label.{told};
 ghost use Rattle.sfdu.specs.Scan.{object};
+ghost use Rattle.sfdu.specs.Find.{findRow, valueAtLeaf};
 ghost use Rattle.sfdu.specs.Walk.{walkedTo, walkFrom, stepped, stepAt};
 ghost use Rattle.sfdu.specs.Check.{Checked, checkLabelled};
 
@@ -159,4 +164,31 @@ pub fn walk_from(file: &[u8], from: usize, leaves: usize) -> Walked
         }
     }
     Walked::Refused(Refusal::NoRow, 0)
+}
+
+// The value of the leaf that a walk from place `from` comes to, after so many leaves.
+pub fn value_from(file: &[u8], from: usize, leaves: usize) -> Show
+    ensures { λ r. ⌜ shown r ≡ andThen (walkFrom (now (file .entry)) from leaves) valueAtLeaf ⌝ }
+{
+    match walk_from(file, from, leaves) {
+        Walked::Is(leaf) => {
+            let value = leaf.place + 20;
+            Show::Is(Part {
+                place: value,
+                count: leaf.label.length,
+            })
+        }
+        Walked::Refused(why, place) => Show::Refused(why, place),
+    }
+}
+
+// Row k of a labelled file, read from the first byte: the whole file is checked, and then its leaves
+// are counted.
+pub fn find_row(file: &[u8], k: usize) -> Show
+    ensures { λ r. ⌜ shown r ≡ findRow (now (file .entry)) k ⌝ }
+{
+    match check(file) {
+        Count::Is(_) => value_from(file, 0, k),
+        Count::Refused(why, place) => Show::Refused(why, place),
+    }
 }
