@@ -1,11 +1,12 @@
 -- How a writer's promise is met: by a refusal with nothing written, or by what it writes followed by the rest.
-use Prim.Native.Nat.{ℕ, _+_, _-_, _≤_}
+use Prim.Native.Nat.{ℕ, suc, _+_, _-_, _≤_, _<_}
 use native.Mathlib.Nat.{le-of-eq}
 use native.Mathlib.Omega.{arith}
 use mathlib.Core.Path.{_≡_, _∙_, sym, ap, ap₂}
-use mathlib.Core.List.{List, [], _++_, append-assoc, append-nil}
-use lib.ListN.{length, take, drop, length-append, length-drop, drop-of-length-le}
-use lib.Seq.{take-length, take-at, drop-at, drop-drop}
+use mathlib.Core.List.{List, [], _∷_, _++_, append-assoc, append-nil}
+use lib.ListN.{length, getD, set, take, drop, length-append, length-drop, drop-of-length-le}
+use native.Mathlib.Numerals.{add-one}
+use lib.Seq.{take-length, take-at, drop-at, drop-drop, drop-cons, take-suc, set-at, append-snoc, length-take-le}
 use borrow.Rule.Slice.PartMut.{putMid, postOf}
 use Rattle.answer.specs.Outcome.{Outcome, answer, refuse}
 use Rattle.answer.proofs.Parts.{all-that-is-left}
@@ -53,3 +54,19 @@ module _ (w ys old front back : List ℕ) (n : ℕ) (h : length w ≡ n) (room :
 
       both : n + length ys ≡ length (w ++ ys)
       both = omega (arith, length-append w ys)
+
+-- A loop that writes `xs` over `old` from the front, one a turn: after i turns the list holds the first i of `xs` and the rest
+-- of `old`.
+module _ (xs old : List ℕ) (i : ℕ) where
+  pub one-more-written : (v : ℕ) → i < length xs → i < length old → v ≡ getD xs i 0
+      → set (take i xs ++ drop i old) i v ≡ take (i + 1) xs ++ drop (i + 1) old
+  one-more-written v h k e =
+      ap (λ (t : List ℕ). set (take i xs ++ t) i v) (drop-cons old i 0 k)
+      ∙ set-at (take i xs) (getD old i 0) (drop (suc i) old) v i (length-take-le i xs (omega arith))
+      ∙ ap (λ (w : ℕ). take i xs ++ w ∷ drop (suc i) old) e
+      ∙ sym (append-snoc (take i xs) (getD xs i 0) (drop (suc i) old))
+      ∙ ap (λ (t : List ℕ). t ++ drop (suc i) old) (sym (take-suc xs i 0 h))
+      ∙ ap (λ (n : ℕ). take n xs ++ drop n old) (sym (add-one i))
+
+  pub written-length : i ≤ length xs → i ≤ length old → length (take i xs ++ drop i old) ≡ length old
+  written-length h k = length-append (take i xs) (drop i old) ∙ omega (arith, length-take-le i xs h, length-drop i old)

@@ -1,0 +1,5 @@
+pub mod Bits
+pub mod Search
+pub mod Table
+pub mod Ends
+pub mod Listed

@@ -1,0 +1,137 @@
+-- The builder and the check of an index, in their code's own terms: the loops' invariants, and each answer case by case.
+use Prim.Native.Nat.{ℕ, suc, _+_, _/_, _≤_, _<_, zero-le}
+use native.Mathlib.Numerals.{add-one}
+use native.Mathlib.Omega.{arith}
+use mathlib.Core.Path.{_≡_, refl, _∙_, sym, ap, ap₂}
+use mathlib.Core.Bool.{Bool, true, false, _&&_}
+use mathlib.Core.List.{List, [], _∷_, _++_}
+use lib.ListN.{length, getD, set, take, drop, drop-of-length-le}
+use lib.Seq.{drop-cons}
+use lib.Dec.{eqb}
+use borrow.Author.Tests.{le-leb, lt-leb, eq-eqb, ne-eqb}
+use Rattle.answer.specs.Outcome.{answer, refuse, need}
+use Rattle.answer.proofs.Outcomes.{first-answered, refused-first, answer-injective}
+use Rattle.answer.proofs.Writers.{one-more-written}
+use Rattle.sfdu.specs.Row.{Row}
+use Rattle.sfdu.specs.Check.{rowsOfFile, checkLabelled}
+use Rattle.row_index.specs.Index.{indexOf, theIndex, buildIndex, builtIndex, same, checkIndex}
+use Rattle.row_index.proofs.Sixteenths.{one-entry-a-group}
+use Rattle.row_index.proofs.Entries.{AtEntry, Entry, first-entry, index-of-accepted}
+
+-- ---- the builder's loop
+
+pub record Writing (f : List ℕ) (entries : ℕ) (old list : List ℕ) (i from leaves : ℕ) : Type 0 where
+  pub within : i ≤ entries
+  pub at : AtEntry f i from leaves
+  pub holds : list ≡ take i (theIndex f) ++ drop i old
+
+pub nothing-written : (f : List ℕ) (entries : ℕ) (old : List ℕ) → Writing f entries old old 0 0 0
+nothing-written f entries old = record { within = zero-le; at = first-entry f; holds = refl }
+
+pub entry-written : (f : List ℕ) (entries : ℕ) (old list : List ℕ) (i from leaves place : ℕ) → Writing f entries old list i from leaves
+    → entries ≤ length (theIndex f) → entries ≤ length old → i < entries → Entry f i place → Writing f entries old (set list i place) (i + 1) place 16
+entry-written f entries old list i from leaves place w h k more entry = record {
+  within = omega arith;
+  at = entry .on;
+  holds =
+      ap (λ (l : List ℕ). set l i place) (w .holds)
+      ∙ one-more-written (theIndex f) old i place (omega arith) (omega arith) (entry .is);
+}
+
+-- ---- the check's loop
+
+-- two lists that have an entry at i are compared there and then from i + 1 on
+same-step : (xs ys : List ℕ) (i : ℕ) → i < length xs → i < length ys
+    → same (drop i xs) (drop i ys) ≡ (eqb (getD xs i 0) (getD ys i 0) && same (drop (i + 1) xs) (drop (i + 1) ys))
+same-step xs ys i h k =
+    ap₂ same (drop-cons xs i 0 h) (drop-cons ys i 0 k)
+    ∙ ap (λ (n : ℕ). eqb (getD xs i 0) (getD ys i 0) && same (drop n xs) (drop n ys)) (sym (add-one i))
+
+pub record Comparing (f xs : List ℕ) (i from leaves : ℕ) : Type 0 where
+  pub at : AtEntry f i from leaves
+  pub left : same xs (theIndex f) ≡ same (drop i xs) (drop i (theIndex f))
+
+pub nothing-compared : (f xs : List ℕ) → Comparing f xs 0 0 0
+nothing-compared f xs = record { at = first-entry f; left = refl }
+
+module _ (f xs : List ℕ) (i from leaves place : ℕ) (w : Comparing f xs i from leaves) (many : length xs ≡ length (theIndex f))
+    (more : i < length xs) (entry : Entry f i place) where
+  pub entry-agrees : getD xs i 0 ≡ place → Comparing f xs (i + 1) place 16
+  entry-agrees e = record {
+    at = entry .on;
+    left =
+        w .left ∙ same-step xs (theIndex f) i more (omega arith)
+        ∙ ap (λ (t : Bool). t && same (drop (i + 1) xs) (drop (i + 1) (theIndex f))) (eq-eqb (getD xs i 0) (getD (theIndex f) i 0) (e ∙ entry .is));
+  }
+
+  pub entry-differs : (getD xs i 0 ≡ place → ⊥) → same xs (theIndex f) ≡ false
+  entry-differs d =
+      w .left ∙ same-step xs (theIndex f) i more (omega arith)
+      ∙ ap (λ (t : Bool). t && same (drop (i + 1) xs) (drop (i + 1) (theIndex f)))
+      (ne-eqb (getD xs i 0) (getD (theIndex f) i 0) (λ e. d (e ∙ sym (entry .is))))
+
+pub all-compared : (f xs : List ℕ) (i from leaves : ℕ) → Comparing f xs i from leaves → length xs ≡ length (theIndex f) → length xs ≤ i
+    → same xs (theIndex f) ≡ true
+all-compared f xs i from leaves w many h =
+    w .left ∙ ap₂ same (drop-of-length-le xs {i = i} h) (drop-of-length-le (theIndex f) {i = i} (omega arith))
+
+-- lists of different lengths are not the same
+pub lengths-differ : (xs ys : List ℕ) → (length xs ≡ length ys → ⊥) → same xs ys ≡ false
+lengths-differ [] [] d = absurd (d refl)
+lengths-differ [] (y ∷ ys) d = refl
+lengths-differ (x ∷ xs) [] d = refl
+lengths-differ (x ∷ xs) (y ∷ ys) d = ap (λ (t : Bool). eqb x y && t) (lengths-differ xs ys (λ e. d (ap suc e))) ∙ never (eqb x y)
+  where
+    never : (t : Bool) → (t && false) ≡ false
+    never true = refl
+    never false = refl
+
+-- ---- the answers
+
+-- what a count says: the file's rows, and as many entries as groups
+module _ (f : List ℕ) (n : ℕ) (checked : checkLabelled f ≡ answer n) where
+  pub rows-counted : (rows : List Row) × (rowsOfFile f ≡ answer rows) × (length rows ≡ n)
+  unfolding checkLabelled
+  rows-counted = let q = first-answered (rowsOfFile f) (λ rows. answer (length rows)) n checked in (q .0, q .1, answer-injective (q .2))
+
+  pub entries-counted : length (theIndex f) ≡ (n + 15) / 16
+  entries-counted =
+      let (rows, accepted, many) = rows-counted in
+      ap length (index-of-accepted f rows accepted) ∙ one-entry-a-group rows ∙ ap (λ (k : ℕ). (k + 15) / 16) many
+
+  module _ (room : ℕ) where
+    pub no-room-to-build : room < (n + 15) / 16 → (builtIndex f room ≡ refuse 8 0) × (buildIndex f room ≡ refuse 8 0)
+    unfolding builtIndex buildIndex
+    no-room-to-build h =
+        let (rows, accepted, many) = rows-counted in
+        let k = one-entry-a-group rows ∙ ap (λ (k : ℕ). (k + 15) / 16) many in
+        (rw (accepted, lt-leb (length (indexOf rows)) room (omega (arith, k))), rw (accepted, lt-leb (length (indexOf rows)) room (omega (arith, k))))
+
+    pub index-is-built : (n + 15) / 16 ≤ room
+        → (builtIndex f room ≡ answer (record { entries = (n + 15) / 16; rows = n })) × (buildIndex f room ≡ answer (theIndex f))
+    unfolding builtIndex buildIndex
+    index-is-built h =
+        let (rows, accepted, many) = rows-counted in
+        let k : length (indexOf rows) ≡ (n + 15) / 16 = one-entry-a-group rows ∙ ap (λ (k : ℕ). (k + 15) / 16) many in (
+          rw (accepted, le-leb (length (indexOf rows)) room (omega (arith, k)), k, many),
+          rw (accepted, le-leb (length (indexOf rows)) room (omega (arith, k))) (ap answer (sym (index-of-accepted f rows accepted))),
+        )
+
+  pub index-is-checked : (xs : List ℕ) → checkIndex f xs ≡ need (same xs (theIndex f)) 11 (answer tt)
+  unfolding checkIndex
+  index-is-checked xs =
+      let (rows, accepted, many) = rows-counted in
+      rw (accepted, index-of-accepted f rows accepted)
+
+module _ (f : List ℕ) (n p : ℕ) (refused : checkLabelled f ≡ refuse n p) where
+  no-rows : rowsOfFile f ≡ refuse n p
+  unfolding checkLabelled
+  no-rows = refused-first (rowsOfFile f) length refused
+
+  pub not-built : (room : ℕ) → (builtIndex f room ≡ refuse n p) × (buildIndex f room ≡ refuse n p)
+  unfolding builtIndex buildIndex
+  not-built room = (rw no-rows, rw no-rows)
+
+  pub not-checked : (xs : List ℕ) → checkIndex f xs ≡ refuse n p
+  unfolding checkIndex
+  not-checked xs = rw no-rows

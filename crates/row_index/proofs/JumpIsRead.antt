@@ -1,0 +1,67 @@
+-- The auditor's third question for labelled files: with a list that is the file's index, the jump to row k gives what reading
+-- from the first byte gives, whatever k is. The jump resumes, from the label of row 16·(k div 16), the walk that reading makes.
+use Prim.Native.Nat.{ℕ, _+_, _*_, _/_, _%_, _≤_, _<_}
+use native.Mathlib.Nat.{lt-of-not-le}
+use native.Mathlib.Decide.{decLe}
+use native.Mathlib.Omega.{arith}
+use mathlib.Core.Path.{_≡_, _∙_, sym, ap}
+use mathlib.Core.List.{List}
+use lib.ListN.{length, getD}
+use borrow.Author.Tests.{le-leb, lt-leb, lt-ltb, le-ltb}
+use Rattle.answer.specs.Outcome.{Outcome, answer, refuse, andThen}
+use Rattle.sfdu.specs.Row.{Row}
+use Rattle.sfdu.specs.declared.Leaf.{Leaf}
+use Rattle.sfdu.specs.Check.{rowsOfFile}
+use Rattle.sfdu.specs.Walk.{walkFrom}
+use Rattle.sfdu.specs.Find.{nthRow, findRow, valueAtLeaf}
+use Rattle.sfdu.proofs.Checking.{accepted-says}
+use Rattle.sfdu.proofs.Finding.{reads-the-row}
+use Rattle.sfdu.proofs.WalkLoop.{place-inside}
+use Rattle.sfdu.proofs.WalkReads.{walkAt, walk-reads-rows, resume, found-ends-inside}
+use Rattle.row_index.specs.Index.{indexOf}
+use Rattle.row_index.specs.Jump.{jumpTo}
+use Rattle.row_index.proofs.Sixteenths.{no-such-row, one-entry-a-group}
+use Rattle.row_index.proofs.Entries.{leaf-of-entry}
+
+-- ---- the jump case by case
+
+module _ (f xs : List ℕ) (k : ℕ) where
+  pub too-big-to-jump : 4294967295 < length f → jumpTo f xs k ≡ refuse 14 0
+  unfolding jumpTo
+  too-big-to-jump h = rw (lt-leb (length f) 4294967295 h)
+
+  module _ (small : length f ≤ 4294967295) where
+    pub no-entry : length xs ≤ k / 16 → jumpTo f xs k ≡ refuse 6 0
+    unfolding jumpTo
+    no-entry h = rw (le-leb (length f) 4294967295 small, le-ltb (k / 16) (length xs) h)
+
+    pub jumps-from-entry : k / 16 < length xs → jumpTo f xs k ≡ andThen (walkFrom f (getD xs (k / 16) 0) (k % 16)) valueAtLeaf
+    unfolding jumpTo
+    jumps-from-entry h = rw (le-leb (length f) 4294967295 small, lt-ltb (k / 16) (length xs) h)
+
+-- ---- the theorem
+
+module _ (f : List ℕ) (rows : List Row) (accepted : rowsOfFile f ≡ answer rows) (k : ℕ) where
+  -- no entry, no row
+  beyond-the-last-group : length (indexOf rows) ≤ k / 16 → jumpTo f (indexOf rows) k ≡ nthRow rows k
+  beyond-the-last-group h =
+      no-entry f (indexOf rows) k (accepted-says f rows accepted .0) h
+      ∙ sym (no-such-row rows k (omega (arith, one-entry-a-group rows)))
+
+  -- from an entry, the walk goes on as reading does
+  from-the-entry : k / 16 < length (indexOf rows) → jumpTo f (indexOf rows) k ≡ nthRow rows k
+  from-the-entry h =
+      let (x, walks, place) = leaf-of-entry f rows accepted (k / 16) h in
+      let inside : x .place ≤ length f = omega (arith, found-ends-inside f 0 (16 * (k / 16)) x walks) in
+      jumps-from-entry f (indexOf rows) k (accepted-says f rows accepted .0) h
+      ∙ ap (λ (o : Outcome Leaf). andThen o valueAtLeaf)
+      (ap (λ (p : ℕ). walkFrom f p (k % 16)) (sym place) ∙ place-inside f (x .place) (k % 16) inside
+      ∙ sym (ap (λ (o : Outcome Leaf). andThen o (λ y. walkAt f (y .place) (k % 16))) walks)
+      ∙ sym (resume f 0 (16 * (k / 16)) (k % 16))
+      ∙ ap (walkAt f 0) {x = 16 * (k / 16) + k % 16} {y = k} (omega arith))
+      ∙ walk-reads-rows f rows (accepted-says f rows accepted .1) k
+
+  pub jump-is-read : jumpTo f (indexOf rows) k ≡ findRow f k
+  jump-is-read =
+      elim (decLe (length (indexOf rows)) (k / 16)) [ yes h ↦ beyond-the-last-group h | no h ↦ from-the-entry (lt-of-not-le h) ]
+      ∙ sym (reads-the-row f rows accepted k)

@@ -1,0 +1,4 @@
+pub mod Sixteenths
+pub mod Entries
+pub mod Building
+pub mod JumpIsRead

@@ -1,0 +1,64 @@
+-- The index of a labelled file (document 01: "one entry for each started group of 16 rows: the place of the label of rows 0,
+-- 16, 32 and so on"), its builder (14, faults, 8) and its check (14, faults, 11).
+use Prim.Native.Nat.{ℕ, zero, suc}
+use mathlib.Core.Bool.{Bool, true, false, _&&_}
+use mathlib.Core.List.{List, [], _∷_}
+use lib.ListN.{length}
+use lib.Dec.{leb, eqb}
+use Rattle.answer.specs.Outcome.{Outcome, answer, refuse, need, andThen}
+use Rattle.answer.specs.Refusal.{numberOf}
+use Rattle.sfdu.specs.Row.{Row}
+use Rattle.sfdu.specs.Check.{rowsOfFile}
+use Rattle.row_index.specs.declared.Built.{Built}
+use Rattle.row_index.specs.declared.Build.{Build}
+use Rattle.row_index.specs.declared.Build.the-variants as build
+use Rattle.row_index.specs.declared.Verified.{Verified}
+use Rattle.row_index.specs.declared.Verified.the-variants as verified
+
+-- the place of the label of every sixteenth row, after so many rows that are passed
+abbrev pub every : ℕ → List Row → List ℕ
+every n [] = []
+every zero (r ∷ rs) = r .label ∷ every 15 rs
+every (suc n) (r ∷ rs) = every n rs
+
+-- the index of a file with these rows
+abbrev pub indexOf : List Row → List ℕ
+indexOf rows = every 0 rows
+
+-- the index of a file: of one that is refused, none
+abbrev pub known : Outcome (List Row) → List ℕ
+known (answer rows) = indexOf rows
+known (refuse n p) = []
+
+unfoldable pub theIndex : List ℕ → List ℕ
+theIndex f = known (rowsOfFile f)
+
+-- what the builder writes into a list with room for so many entries
+unfoldable pub buildIndex : List ℕ → ℕ → Outcome (List ℕ)
+buildIndex f room = andThen (rowsOfFile f) (λ rows. need (leb (length (indexOf rows)) room) 8 (answer (indexOf rows)))
+
+-- what it answers: how many entries, and how many rows the file has
+unfoldable pub builtIndex : List ℕ → ℕ → Outcome Built
+builtIndex f room =
+    andThen (rowsOfFile f)
+    (λ rows. need (leb (length (indexOf rows)) room) 8 (answer (record { entries = length (indexOf rows); rows = length rows })))
+
+-- two lists are the same, entry for entry
+abbrev pub same : List ℕ → List ℕ → Bool
+same [] [] = true
+same [] (y ∷ ys) = false
+same (x ∷ xs) [] = false
+same (x ∷ xs) (y ∷ ys) = eqb x y && same xs ys
+
+-- the whole list is this file's index
+unfoldable pub checkIndex : List ℕ → List ℕ → Outcome Unit
+checkIndex f xs = andThen (rowsOfFile f) (λ rows. need (same xs (indexOf rows)) 11 (answer tt))
+
+-- what the answer enums stand for
+abbrev pub built : Build → Outcome Built
+built (build.Is b) = answer b
+built (build.Refused why place) = refuse (numberOf why) place
+
+abbrev pub accepted : Verified → Outcome Unit
+accepted verified.Right = answer tt
+accepted (verified.Refused why place) = refuse (numberOf why) place

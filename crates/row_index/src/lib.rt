@@ -1,0 +1,144 @@
+// The index of a labelled file, built, checked, and the jump to a row by it. Renders document 01,
+// "The index and the jump"; the kept form of an index is a crate of its own, and windows are left to
+// the reader.
+use answer::Count;
+use answer::Refusal;
+use answer::Show;
+use sfdu::Walked;
+ghost use mathlib.Core.Path.{_≡_};
+ghost use Prim.Native.Nat.{_+_, _/_, _≤_};
+ghost use mathlib.Core.List.{_++_};
+ghost use lib.ListN.{length, take, drop};
+ghost use Rattle.answer.specs.Filled.{filled};
+ghost use Rattle.answer.specs.Window.{shown};
+ghost use Rattle.row_index.specs.Index.{built, buildIndex, builtIndex, theIndex, same, accepted, checkIndex};
+ghost use Rattle.sfdu.specs.Walk.{walkFrom};
+ghost use Rattle.row_index.specs.Jump.{jumpTo, placeFound};
+
+// The largest file that is taken, in bytes.
+const MOST: usize = 4294967295;
+
+// What the builder wrote: so many entries, for a file with so many rows.
+pub struct Built {
+    pub entries: usize,
+    pub rows: usize,
+}
+
+// An index that was built, or a refusal with its place.
+pub enum Build {
+    Is(Built),
+    Refused(Refusal, usize),
+}
+
+// A list that is the file's index, or a refusal with its place.
+pub enum Verified {
+    Right,
+    Refused(Refusal, usize),
+}
+
+// The value of row k by the list: the entry of its group of sixteen, and then a walk.
+pub fn jump_to(file: &[u8], list: &[u32], k: usize) -> Show
+    ensures { λ r. ⌜ shown r ≡ jumpTo (now (file .entry)) (now (list .entry)) k ⌝ }
+{
+    if MOST < file.len() {
+        return Show::Refused(Refusal::TooBig, 0);
+    }
+    let group = k / 16;
+    if list.len() <= group {
+        return Show::Refused(Refusal::NoRow, 0);
+    }
+    let entry = list[group] as usize;
+    sfdu::value_from(file, entry, k % 16)
+}
+
+// The place of the label that a walk comes to.
+fn entry_from(file: &[u8], from: usize, leaves: usize) -> usize
+    ensures { λ r. ⌜ r ≡ placeFound (walkFrom (now (file .entry)) from leaves) ⌝ }
+{
+    match sfdu::walk_from(file, from, leaves) {
+        Walked::Is(leaf) => leaf.place,
+        Walked::Refused(_, _) => 0,
+    }
+}
+
+// Writes the first entries of the file's index: each is found by a walk of sixteen leaves from the
+// one before it.
+fn write_entries(file: &[u8], entries: usize, list: &mut [u32])
+    requires { ⌜ (length (now file) ≤ 4294967295) × (entries ≤ length (theIndex (now file))) × (entries ≤ length (now list)) ⌝ }
+    ensures { λ _. ⌜ now (list .exit) ≡ take entries (theIndex (now (file .entry))) ++ drop entries (now (list .entry)) ⌝ }
+{
+    let mut i: usize = 0;
+    let mut from: usize = 0;
+    let mut leaves: usize = 0;
+    while i < entries {
+        let place = entry_from(file, from, leaves);
+        list[i] = place as u32;
+        from = place;
+        leaves = 16;
+        i += 1;
+    }
+}
+
+// Whether the list is the file's index, where it has as many entries.
+fn entries_agree(file: &[u8], list: &[u32]) -> bool
+    requires { ⌜ length (now list) ≡ length (theIndex (now file)) ⌝ }
+    ensures { λ r. ⌜ r ≡ same (now (list .entry)) (theIndex (now (file .entry))) ⌝ }
+{
+    let mut i: usize = 0;
+    let mut from: usize = 0;
+    let mut leaves: usize = 0;
+    while i < list.len() {
+        let place = entry_from(file, from, leaves);
+        if list[i] as usize != place {
+            return false;
+        }
+        from = place;
+        leaves = 16;
+        i += 1;
+    }
+    true
+}
+
+// How many groups of sixteen so many rows start.
+fn groups(rows: usize) -> usize
+    ensures { λ r. ⌜ r ≡ (rows + 15) / 16 ⌝ }
+{
+    rows / 16 + (rows % 16 + 15) / 16
+}
+
+// Builds the index: writes its entries to the front of the list, and leaves the rest as it is.
+pub fn build_index(file: &[u8], list: &mut [u32]) -> Build
+    ensures answers { λ r. ⌜ built r ≡ builtIndex (now (file .entry)) (length (now (list .entry))) ⌝ }
+    ensures leaves { λ _. ⌜ now (list .exit) ≡ filled (buildIndex (now (file .entry)) (length (now (list .entry)))) (now (list .entry)) ⌝ }
+{
+    match sfdu::check(file) {
+        Count::Refused(why, place) => Build::Refused(why, place),
+        Count::Is(rows) => {
+            let entries = groups(rows);
+            if list.len() < entries {
+                return Build::Refused(Refusal::Small, 0);
+            }
+            write_entries(file, entries, list);
+            Build::Is(Built { entries, rows })
+        }
+    }
+}
+
+// Checks a list against the file: it must be the file's index, entry for entry.
+pub fn check_index(file: &[u8], list: &[u32]) -> Verified
+    ensures { λ r. ⌜ accepted r ≡ checkIndex (now (file .entry)) (now (list .entry)) ⌝ }
+{
+    match sfdu::check(file) {
+        Count::Refused(why, place) => Verified::Refused(why, place),
+        Count::Is(rows) => {
+            if list.len() != groups(rows) {
+                return Verified::Refused(Refusal::BadIndex, 0);
+            }
+            if entries_agree(file, list) {
+                Verified::Right
+            } else {
+                Verified::Refused(Refusal::BadIndex, 0)
+            }
+        }
+    }
+}
