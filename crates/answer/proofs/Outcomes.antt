@@ -1,7 +1,7 @@
 -- What an answer says of the tests before it: a definition that answers passed each of its `need`s.
 use Prim.Native.Nat.{ℕ}
 use native.Mathlib.Omega.{arith}
-use mathlib.Core.Path.{_≡_, refl, sym}
+use mathlib.Core.Path.{_≡_, refl, sym, ap}
 use mathlib.Core.Bool.{Bool, true, false}
 use Rattle.answer.specs.Outcome.{Outcome, answer, refuse, needAt, andThen}
 
@@ -43,3 +43,11 @@ andThen-agrees-where (refuse n p) f g h = refl
 pub andThen-assoc : {A B C : Type 0} (o : Outcome A) (f : A → Outcome B) (g : B → Outcome C) → andThen (andThen o f) g ≡ andThen o (λ a. andThen (f a) g)
 andThen-assoc (answer a) f g = refl
 andThen-assoc (refuse n p) f g = refl
+
+-- what follows an answer, and what follows a refusal
+module _ {A B : Type 0} (o : Outcome A) (next : A → Outcome B) where
+  pub after-answer : (a : A) → o ≡ answer a → andThen o next ≡ next a
+  after-answer a e = ap (λ (x : Outcome A). andThen x next) e
+
+  pub after-refusal : (n p : ℕ) → o ≡ refuse n p → andThen o next ≡ refuse n p
+  after-refusal n p e = ap (λ (x : Outcome A). andThen x next) e

@@ -1,8 +1,6 @@
 pub mod Passing
 pub mod Accepted
 pub mod JumpIsRead
-pub mod Outcomes
-pub mod Windows
 pub mod Rows
 pub mod Shown
 pub mod Framing

@@ -15,7 +15,7 @@ use Rattle.waveform.specs.Rows.{rowSize, samplesSize, firstSample, rowAt
 use Rattle.waveform.specs.Check.{rowCount}
 use Rattle.waveform.specs.Read.{readPlace}
 use Rattle.waveform.specs.Jump.{jumpPlace}
-use Rattle.waveform.proofs.Outcomes.{after-answer}
+use Rattle.answer.proofs.Outcomes.{after-answer}
 use Rattle.waveform.proofs.Accepted.{Whole, accepted-is-whole}
 use Rattle.waveform.proofs.JumpIsRead.{jump-place-is-read-place}
 

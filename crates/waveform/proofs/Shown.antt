@@ -13,8 +13,8 @@ use Rattle.answer.specs.declared.Part.{Part}
 use Rattle.waveform.specs.Rows.{samplesSize, firstSample, rowAt, byteBehind}
 use Rattle.waveform.specs.Check.{rowCount}
 use Rattle.waveform.specs.Read.{readPlace, readRow}
-use Rattle.waveform.proofs.Outcomes.{after-answer, after-refusal}
-use Rattle.waveform.proofs.Windows.{shown-is-inside, window-of-the-row}
+use Rattle.answer.proofs.Outcomes.{after-answer, after-refusal}
+use Rattle.answer.proofs.Windows.{shown-is-inside, window-of-the-row}
 use Rattle.waveform.proofs.JumpIsRead.{jump-place-is-read-place}
 use Rattle.waveform.proofs.Rows.{found-is-row, found-is-inside, row-is-there, jump-misses}
 

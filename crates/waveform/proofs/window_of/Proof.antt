@@ -5,7 +5,7 @@ use mathlib.Core.Path.{_∙_, sym, ap}
 use borrow.Author.Needs.{needs}
 use Rattle.answer.specs.Counted.{counted}
 use Rattle.waveform.specs.Rows.{samplesSize}
-use Rattle.waveform.proofs.Windows.{fitting-is-inside}
+use Rattle.answer.proofs.Windows.{fitting-is-inside}
 use Rattle.waveform.proofs.window_of.Statement.{statement}
 use Rattle.waveform.proofs.window_of.Tie as tie
 

@@ -1,0 +1,3 @@
+pub mod Found
+pub mod Demand3
+pub mod NextRow

@@ -1,0 +1,33 @@
+-- `reader::row_from` meets its contract: by the kind.
+use mathlib.Core.Path.{_∙_, sym, ap}
+use denote.Ref.{now}
+use Rattle.reader.specs.declared.Kind.{Kind}
+use Rattle.reader.specs.Read.{rowFrom}
+use borrow.Author.Needs.{needs}
+use Rattle.reader.proofs.row_from.Statement.{statement}
+use Rattle.reader.proofs.row_from.Tie as tie
+
+enum-told : tie.Need-enum-told
+enum-told c = search needs
+
+value-from-requires : tie.Need-value-from-requires
+value-from-requires c κs = search needs
+
+enum-told-2 : tie.Need-enum-told-2
+enum-told-2 c = search needs
+
+waveform-from-requires : tie.Need-waveform-from-requires
+waveform-from-requires c κs = search needs
+
+returns : tie.Need-returns
+unfolding rowFrom
+returns c = c .value-from .ensures ∙ ap (λ (t : Kind). rowFrom t (now (c .before .before .before .before .args .file)) (c .before .before .before .before .args .from)) (sym (c .before .enum-told .given .1))
+
+returns-2 : tie.Need-returns-2
+unfolding rowFrom
+returns-2 c = c .waveform-from .ensures ∙ ap (λ (t : Kind). rowFrom t (now (c .before .before .before .before .args .file)) (c .before .before .before .before .args .from)) (sym (c .before .enum-told2 .given .1))
+
+pub row-from-spec : {M : Type 1} → statement M
+row-from-spec =
+    tie.close
+    (tie.spec enum-told value-from-requires enum-told-2 waveform-from-requires returns returns-2)

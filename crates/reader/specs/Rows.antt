@@ -1,0 +1,37 @@
+-- The rows of a file of any kind, as demand 2 gives them: which bytes of the file each row is (document 01, "The rows of a
+-- labelled file are its leaves in file order"; "The rows of a waveform file are its 2,048-byte sample parts").
+use Prim.Native.Nat.{ℕ, zero, suc}
+use mathlib.Core.List.{List, [], _∷_, map}
+use Rattle.answer.specs.Outcome.{Outcome, answer, refuse, andThen}
+use Rattle.answer.specs.declared.Part.{Part}
+use Rattle.sfdu.specs.Check.{rowsOfFile, checkLabelled}
+use Rattle.sfdu.specs.Find.{valueOf}
+use Rattle.waveform.specs.Rows.{firstSample, samplesSize}
+use Rattle.waveform.specs.Check.{rowCount}
+use Rattle.reader.specs.declared.Kind.{Kind}
+use Rattle.reader.specs.declared.Kind.the-variants.{Labelled, Waveform}
+
+-- n waveform rows, from row k on
+abbrev pub sampleParts : ℕ → ℕ → List Part
+sampleParts k zero = []
+sampleParts k (suc n) = record { place = firstSample k; count = samplesSize } ∷ sampleParts (suc k) n
+
+-- the rows, in file order
+unfoldable pub rowParts : Kind → List ℕ → Outcome (List Part)
+rowParts Labelled f = andThen (rowsOfFile f) (λ rows. answer (map valueOf rows))
+rowParts Waveform f = andThen (rowCount f) (λ n. answer (sampleParts 0 n))
+
+-- the row with this number, counted from 0
+abbrev pub nthPart : List Part → ℕ → Outcome Part
+nthPart [] k = refuse 6 0
+nthPart (p ∷ ps) zero = answer p
+nthPart (p ∷ ps) (suc k) = nthPart ps k
+
+-- the check of a file: how many rows it has
+unfoldable pub checkFile : Kind → List ℕ → Outcome ℕ
+checkFile Labelled f = checkLabelled f
+checkFile Waveform f = rowCount f
+
+-- row k of a file: its place and its size, or why there is none
+unfoldable pub rowOf : Kind → List ℕ → ℕ → Outcome Part
+rowOf kind f k = andThen (rowParts kind f) (λ rows. nthPart rows k)
