@@ -1,0 +1,48 @@
+-- The cases hold: the small files and numbers by computing, those about every file of a size by the waveform crate's laws.
+use Prim.Native.Nat.{ℕ}
+use mathlib.Core.Path.{_≡_, refl, _∙_}
+use lib.Count.{trailingZeros}
+use lib.Ieee.{odd}
+use Rattle.label.specs.Label.{readLabel}
+use Rattle.sfdu.specs.Scan.{object, level, objects, scan}
+use Rattle.sfdu.specs.Check.{rowsOfFile, checkLabelled}
+use Rattle.sfdu.specs.Find.{findRow}
+use Rattle.row_index.specs.Index.{buildIndex, checkIndex}
+use Rattle.waveform.proofs.Cases as waveform
+use Rattle.waveform.proofs.JumpIsRead as waveform-jump
+use Rattle.reader.specs.Rows.{checkFile}
+use Rattle.reader.specs.Read.{readRow, jumpRow}
+use Rattle.altimeter.specs.Limits.{table}
+use Rattle.cases.specs.Table.{Table}
+
+pub cases-hold : Table
+unfolding readLabel object level objects scan rowsOfFile checkLabelled findRow buildIndex checkIndex checkFile readRow jumpRow table odd trailingZeros
+cases-hold = record {
+  empty-is-accepted = refl;
+  empty-has-no-row = λ a c. refl;
+  nineteen-bytes = refl;
+  two-rows = refl;
+  row-0 = refl;
+  row-1 = refl;
+  one-entry = refl;
+  its-index = refl;
+  shorter-outside = refl;
+  longer-inside = refl;
+  one-byte-short = waveform.one-byte-short;
+  no-bytes = refl;
+  row-31 = λ f c e. waveform.row-31 f e c;
+  row-31-at-1024 = λ f c e. waveform.row-31-at-1024 f e c;
+  jump-to-row-31-at-1024 = λ f xs c e h. waveform-jump.jump-is-read f 31 1024 c ∙ waveform.row-31-at-1024 f e c h;
+  sample-0 = waveform.sample-0;
+  sample-127 = waveform.sample-127;
+  sample-128 = waveform.sample-128;
+  sample-255 = waveform.sample-255;
+  vax-one = refl;
+  vax-minus-one = refl;
+  vax-zero = refl;
+  vax-reserved = refl;
+  under-141 = refl;
+  least-141 = refl;
+  most-141 = refl;
+  over-141 = refl;
+}
