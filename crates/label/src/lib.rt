@@ -22,11 +22,12 @@ pub struct Four {
     pub d: u8,
 }
 
-// What a label says. `length` is the number of bytes after the label: its value.
+// What a label says. `length` is the number of bytes after the label: its value. (In this order no
+// field crosses a word's end, so that an answer is copied in whole words.)
 pub struct Label {
     pub agency: Four,
-    pub class: u8,
     pub description: Four,
+    pub class: u8,
     pub length: usize,
 }
 

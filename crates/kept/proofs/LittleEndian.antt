@@ -1,0 +1,60 @@
+-- Little-endian bytes and the number they are: each gives the other back. Then the number in two or four bytes, as the
+-- code sums it, and lists whose numbers are all below a limit.
+use Prim.Native.Nat.{ℕ, zero, suc, _+_, _*_, _/_, _^_, _≤_, _<_}
+use native.Mathlib.Nat.{pow-zero}
+use native.Mathlib.Numerals.{add-one, add-two, add-three}
+use native.Mathlib.Omega.{arith}
+use mathlib.Core.Path.{_≡_, refl, _∙_, ap, ap₂}
+use mathlib.Core.List.{List, [], _∷_}
+use lib.ListN.{length, getD, take, drop}
+use lib.Seq.{drop-cons}
+use Rattle.answer.specs.Window.{bytesAt}
+use Rattle.kept.specs.LittleEndian.{le, leNumber, Below}
+
+-- the bytes of a number are that number
+pub number-of-bytes : (w n : ℕ) → n < 256 ^ w → leNumber (le w n) ≡ n
+number-of-bytes zero n h = omega (arith, pow-zero 256)
+number-of-bytes (suc w) n h = omega (arith, number-of-bytes w (n / 256) (omega arith))
+
+-- bytes are the bytes of their number
+pub bytes-of-number : (bs : List ℕ) → Below 256 bs → le (length bs) (leNumber bs) ≡ bs
+bytes-of-number [] h = refl
+bytes-of-number (b ∷ bs) h =
+    ap₂ _∷_ (omega (arith, h .0))
+    (ap (le (length bs)) (omega (arith, h .0)) ∙ bytes-of-number bs (h .1))
+
+-- the bytes from a place on, one by one
+one-byte : (s : List ℕ) (at w : ℕ) → at < length s → bytesAt s at (suc w) ≡ getD s at 0 ∷ bytesAt s (suc at) w
+one-byte s at w h = ap (take (suc w)) (drop-cons s at 0 h)
+
+pub two-bytes : (s : List ℕ) (at : ℕ) → at + 2 ≤ length s → leNumber (bytesAt s at 2) ≡ getD s at 0 + 256 * getD s (at + 1) 0
+two-bytes s at h =
+    ap leNumber (one-byte s at 1 (omega arith) ∙ ap (λ (t : List ℕ). getD s at 0 ∷ t) (one-byte s (suc at) 0 (omega arith)))
+    ∙ rw add-one (omega arith)
+
+pub four-bytes : (s : List ℕ) (at : ℕ) → at + 4 ≤ length s
+    → leNumber (bytesAt s at 4) ≡ getD s at 0 + 256 * (getD s (at + 1) 0 + 256 * (getD s (at + 2) 0 + 256 * getD s (at + 3) 0))
+four-bytes s at h =
+    ap leNumber
+    (one-byte s at 3 (omega arith)
+    ∙ ap (λ (t : List ℕ). getD s at 0 ∷ t)
+    (one-byte s (suc at) 2 (omega arith)
+    ∙ ap (λ (t : List ℕ). getD s (suc at) 0 ∷ t)
+    (one-byte s (suc (suc at)) 1 (omega arith)
+    ∙ ap (λ (t : List ℕ). getD s (suc (suc at)) 0 ∷ t) (one-byte s (suc (suc (suc at))) 0 (omega arith)))))
+    ∙ rw (add-one, add-two, add-three) (omega arith)
+
+-- numbers that are below a limit wherever they stand: what is known of a lent slice, by its type
+pub each-below : (m : ℕ) (xs : List ℕ) → ((i : ℕ) → i < length xs → getD xs i 0 < m) → Below m xs
+each-below m [] h = tt
+each-below m (x ∷ xs) h = (h 0 (omega arith), each-below m xs (λ i k. h (suc i) (omega arith)))
+
+pub below-in-the-front : (m : ℕ) (k : ℕ) (xs : List ℕ) → Below m xs → Below m (take k xs)
+below-in-the-front m zero xs h = tt
+below-in-the-front m (suc k) [] h = tt
+below-in-the-front m (suc k) (x ∷ xs) h = (h .0, below-in-the-front m k xs (h .1))
+
+pub below-in-the-rest : (m : ℕ) (k : ℕ) (xs : List ℕ) → Below m xs → Below m (drop k xs)
+below-in-the-rest m zero xs h = h
+below-in-the-rest m (suc k) [] h = tt
+below-in-the-rest m (suc k) (x ∷ xs) h = below-in-the-rest m k xs (h .1)

@@ -1,0 +1,63 @@
+-- The reader case by case, in the order of its refusals.
+use Prim.Native.Nat.{ℕ, _-_, _/_, _%_, _≤_, _<_}
+use mathlib.Core.Path.{_≡_}
+use mathlib.Core.Bool.{true, false, _&&_, and-false}
+use mathlib.Core.List.{List}
+use lib.ListN.{length, drop}
+use lib.Dec.{leb, eqb}
+use borrow.Author.Tests.{le-leb, lt-leb, eq-eqb, ne-eqb, leb-true, eqb-true}
+use Rattle.answer.specs.Outcome.{answer, refuse}
+use Rattle.answer.specs.Window.{bytesAt}
+use Rattle.answer.proofs.Tests.{both-hold}
+use Rattle.kept.specs.LittleEndian.{leNumber}
+use Rattle.kept.specs.Kept.{entriesOf, isKept, readAs, loadKept}
+use Rattle.kept.proofs.Entries.{length-entries}
+
+module _ (kind first : ℕ) (s : List ℕ) where
+  pub too-few-bytes : length s < first → isKept kind first s ≡ false
+  too-few-bytes h = simp (lt-leb _ _ h)
+
+  pub wrong-length : {follows : ℕ} → follows ≡ leNumber (bytesAt s 0 4) → (follows ≡ length s - 4 → ⊥) → isKept kind first s ≡ false
+  wrong-length is h = simp (← is, ne-eqb _ _ h, and-false)
+
+  pub wrong-kind : {found : ℕ} → found ≡ leNumber (bytesAt s 4 2) → (found ≡ kind → ⊥) → isKept kind first s ≡ false
+  wrong-kind is h = simp (← is, ne-eqb _ _ h, and-false)
+
+  pub whole-entries-decide : first ≤ length s → leNumber (bytesAt s 0 4) ≡ length s - 4 → leNumber (bytesAt s 4 2) ≡ kind
+      → isKept kind first s ≡ eqb ((length s - first) % 4) 0
+  whole-entries-decide long size is = simp (le-leb _ _ long, eq-eqb _ _ size, eq-eqb _ _ is)
+
+-- what a record that was accepted says of its bytes
+pub record Accepted (kind first : ℕ) (s : List ℕ) : Type 0 where
+  pub long : first ≤ length s
+  pub size : leNumber (bytesAt s 0 4) ≡ length s - 4
+  pub of-kind : leNumber (bytesAt s 4 2) ≡ kind
+  pub whole : (length s - first) % 4 ≡ 0
+
+pub accepted : (kind first : ℕ) (s : List ℕ) → isKept kind first s ≡ true → Accepted kind first s
+accepted kind first s kept =
+    let (front, back) =
+    both-hold (leb first (length s) && eqb (leNumber (bytesAt s 0 4)) (length s - 4))
+    (eqb (leNumber (bytesAt s 4 2)) kind && eqb ((length s - first) % 4) 0) kept in
+    let (long, size) = both-hold (leb first (length s)) (eqb (leNumber (bytesAt s 0 4)) (length s - 4)) front in
+    let (of-kind, whole) = both-hold (eqb (leNumber (bytesAt s 4 2)) kind) (eqb ((length s - first) % 4) 0) back in
+    record {
+      long = leb-true _ _ long;
+      size = eqb-true _ _ size;
+      of-kind = eqb-true _ _ of-kind;
+      whole = eqb-true _ _ whole;
+    }
+
+module _ (s : List ℕ) (room : ℕ) where
+  pub not-kept : isKept 1 6 s ≡ false → loadKept s room ≡ refuse 13 0
+  unfolding readAs loadKept
+  not-kept h = simp h
+
+  module _ (kept : isKept 1 6 s ≡ true) where
+    pub no-room : room < (length s - 6) / 4 → loadKept s room ≡ refuse 8 0
+    unfolding readAs loadKept
+    no-room h = simp (kept, length-entries, lt-leb _ _ h)
+
+    pub loaded : (length s - 6) / 4 ≤ room → loadKept s room ≡ answer (entriesOf ((length s - 6) / 4) (drop 6 s))
+    unfolding readAs loadKept
+    loaded h = simp (kept, length-entries, le-leb _ _ h)

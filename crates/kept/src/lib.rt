@@ -1,0 +1,141 @@
+// The kept form of an index: a list of 32-bit numbers written to bytes, and read back from them.
+// Renders document 01, "Kept form" (a house format). What the numbers stand for, and whether they are
+// the index of some file, is left to the crates above.
+use answer::Count;
+use answer::Refusal;
+ghost use mathlib.Core.Path.{_≡_};
+ghost use mathlib.Core.List.{_++_};
+ghost use Prim.Native.Nat.{_+_, _*_, _≤_, _<_};
+ghost use lib.ListN.{length, drop};
+ghost use Rattle.answer.specs.Counted.{counted};
+ghost use Rattle.answer.specs.Filled.{Writes};
+ghost use Rattle.answer.specs.Window.{bytesAt};
+ghost use Rattle.kept.specs.LittleEndian.{le, leNumber};
+ghost use Rattle.kept.specs.Kept.{entryBytes, entriesOf, isKept, keepIndex, loadKept};
+ghost use Rattle.kept.specs.Put.{putAt};
+
+// A byte as a number to calculate with.
+fn wide(byte: u8) -> u32
+    ensures { λ r. ⌜ (r ≡ byte) × (r < 256) ⌝ }
+{
+    byte as u32
+}
+
+// Writes a number to the four bytes from place `at` on.
+fn put_four(number: u32, out: &mut [u8], at: usize)
+    requires { ⌜ at + 4 ≤ length (now out) ⌝ }
+    ensures { λ _. ⌜ now (out .exit) ≡ putAt (now (out .entry)) at (le 4 number) ⌝ }
+{
+    let second = number / 256;
+    let third = second / 256;
+    let fourth = third / 256;
+    out[at] = (number % 256) as u8;
+    out[at + 1] = (second % 256) as u8;
+    out[at + 2] = (third % 256) as u8;
+    out[at + 3] = (fourth % 256) as u8;
+}
+
+// The number in the four bytes from place `at` on.
+fn four_at(bytes: &[u8], at: usize) -> u32
+    requires { ⌜ at + 4 ≤ length (now bytes) ⌝ }
+    ensures { λ r. ⌜ r ≡ leNumber (bytesAt (now (bytes .entry)) at 4) ⌝ }
+{
+    let first = wide(bytes[at]);
+    let second = wide(bytes[at + 1]);
+    let third = wide(bytes[at + 2]);
+    let fourth = wide(bytes[at + 3]);
+    first + 256 * (second + 256 * (third + 256 * fourth))
+}
+
+// Writes a record's length, how many bytes follow it, and its kind to the first six bytes.
+fn put_head(follows: u32, kind: u16, out: &mut [u8])
+    requires { ⌜ 6 ≤ length (now out) ⌝ }
+    ensures { λ _. ⌜ now (out .exit) ≡ putAt (now (out .entry)) 0 (le 4 follows ++ le 2 kind) ⌝ }
+{
+    put_four(follows, out, 0);
+    out[4] = (kind % 256) as u8;
+    out[5] = (kind / 256 % 256) as u8;
+}
+
+// Writes the entries from place `first` on, four bytes each.
+fn put_entries(list: &[u32], out: &mut [u8], first: usize)
+    requires { ⌜ first + 4 * length (now list) ≤ length (now out) ⌝ }
+    ensures { λ _. ⌜ now (out .exit) ≡ putAt (now (out .entry)) first (entryBytes (now (list .entry))) ⌝ }
+{
+    let mut i: usize = 0;
+    while i < list.len() {
+        let at = first + 4 * i;
+        put_four(list[i], out, at);
+        i += 1;
+    }
+}
+
+// Writes the kept form of a list to the front of `out`, and answers how many bytes it is: 14, then 8.
+pub fn keep(list: &[u32], out: &mut [u8]) -> Count
+    ensures { λ r. ⌜ Writes (keepIndex (now (list .entry)) (length (now (out .entry))))
+        (now (out .entry)) (counted r) (now (out .exit)) ⌝ }
+{
+    let count = list.len();
+    if 1073741823 < count {
+        return Count::Refused(Refusal::TooBig, 0);
+    }
+    let follows = 2 + 4 * count;
+    let size = 4 + follows;
+    if out.len() < size {
+        return Count::Refused(Refusal::Small, 0);
+    }
+    put_head(follows as u32, 1, out);
+    put_entries(list, out, 6);
+    Count::Is(size)
+}
+
+// Whether these bytes are a whole record of this kind, whose entries begin at place `first`.
+fn is_kept(bytes: &[u8], kind: u32, first: usize) -> bool
+    requires { ⌜ 6 ≤ first ⌝ }
+    ensures { λ r. ⌜ r ≡ isKept kind first (now (bytes .entry)) ⌝ }
+{
+    if bytes.len() < first {
+        return false;
+    }
+    let follows = four_at(bytes, 0) as usize;
+    if follows != bytes.len() - 4 {
+        return false;
+    }
+    let low = wide(bytes[4]);
+    let high = wide(bytes[5]);
+    let found = low + 256 * high;
+    if found != kind {
+        return false;
+    }
+    (bytes.len() - first) % 4 == 0
+}
+
+// Reads so many entries from place `first` on to the front of `list`.
+fn take_entries(bytes: &[u8], first: usize, count: usize, list: &mut [u32])
+    requires { ⌜ (first + 4 * count ≤ length (now bytes)) × (count ≤ length (now list)) ⌝ }
+    ensures { λ _. ⌜ now (list .exit) ≡ putAt (now (list .entry)) 0 (entriesOf count (drop first (now (bytes .entry)))) ⌝ }
+{
+    let mut i: usize = 0;
+    while i < count {
+        let at = first + 4 * i;
+        list[i] = four_at(bytes, at);
+        i += 1;
+    }
+}
+
+// Reads the list that these bytes keep to the front of `list`, and answers how many entries it has: 13,
+// then 8.
+pub fn load(bytes: &[u8], list: &mut [u32]) -> Count
+    ensures { λ r. ⌜ Writes (loadKept (now (bytes .entry)) (length (now (list .entry))))
+        (now (list .entry)) (counted r) (now (list .exit)) ⌝ }
+{
+    if !is_kept(bytes, 1, 6) {
+        return Count::Refused(Refusal::BadKept, 0);
+    }
+    let count = (bytes.len() - 6) / 4;
+    if list.len() < count {
+        return Count::Refused(Refusal::Small, 0);
+    }
+    take_entries(bytes, 6, count, list);
+    Count::Is(count)
+}
