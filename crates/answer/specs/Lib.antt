@@ -3,3 +3,4 @@ pub mod Outcome
 pub mod Counted
 pub mod Filled
 pub mod Window
+pub mod Size

@@ -3,8 +3,9 @@
 use Prim.Native.Nat.{ℕ, _/_, _%_}
 use mathlib.Core.List.{List}
 use lib.ListN.{length, getD}
-use lib.Dec.{leb, ltb}
+use lib.Dec.{ltb}
 use Rattle.answer.specs.Outcome.{Outcome, answer, refuse, need, andThen}
+use Rattle.answer.specs.Size.{ofFile}
 use Rattle.answer.specs.declared.Part.{Part}
 use Rattle.sfdu.specs.declared.Leaf.{Leaf}
 use Rattle.sfdu.specs.Walk.{walkFrom}
@@ -22,5 +23,5 @@ placeFound (refuse n p) = 0
 -- the row's value
 unfoldable pub jumpTo : List ℕ → List ℕ → ℕ → Outcome Part
 jumpTo f xs k =
-    need (leb (length f) 4294967295) 14
+    ofFile f
     (andThen (entryFor xs k) (λ entry. andThen (walkFrom f entry (k % 16)) valueAtLeaf))

@@ -4,14 +4,14 @@ use Prim.Native.Nat.{ℕ, _≤_}
 use mathlib.Core.Path.{_≡_}
 use mathlib.Core.List.{List}
 use lib.ListN.{length}
-use lib.Dec.{leb}
-use Rattle.answer.specs.Outcome.{Outcome, answer, need, andThen}
+use Rattle.answer.specs.Outcome.{Outcome, answer, andThen}
+use Rattle.answer.specs.Size.{ofFile}
 use Rattle.sfdu.specs.Row.{Row}
 use Rattle.sfdu.specs.Scan.{objects, scan}
 
 -- the rows of a labelled file that is not too big
 unfoldable pub rowsOfFile : List ℕ → Outcome (List Row)
-rowsOfFile f = need (leb (length f) 4294967295) 14 (scan f)
+rowsOfFile f = ofFile f (scan f)
 
 -- how many rows were found
 abbrev pub counting : Outcome (List Row) → Outcome ℕ

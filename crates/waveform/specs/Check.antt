@@ -3,9 +3,10 @@
 use Prim.Native.Nat.{ℕ, _/_, _%_}
 use mathlib.Core.List.{List}
 use lib.ListN.{length}
-use lib.Dec.{leb, eqb}
+use lib.Dec.{eqb}
 use Rattle.answer.specs.Outcome.{Outcome, answer, need}
+use Rattle.answer.specs.Size.{ofFile}
 use Rattle.waveform.specs.Rows.{rowSize}
 
 abbrev pub rowCount : List ℕ → Outcome ℕ
-rowCount f = need (leb (length f) 4294967295) 14 (need (eqb (length f % rowSize) 0) 12 (answer (length f / rowSize)))
+rowCount f = ofFile f (need (eqb (length f % rowSize) 0) 12 (answer (length f / rowSize)))
