@@ -1,0 +1,78 @@
+-- The rows of a listed file and their lines: there are few of them, each line is short, and the line of the leaf that a walk
+-- came to is the line of its row.
+use Prim.Native.Nat.{ℕ, suc, _+_, _*_, _%_, _^_, _≤_, _<_}
+use native.Mathlib.Nat.{add-zero}
+use native.Mathlib.Omega.{arith}
+use mathlib.Core.Path.{_≡_, _∙_, sym, ap}
+use mathlib.Core.List.{List, [], _∷_, _++_, append-assoc}
+use lib.ListN.{length, length-append}
+use lib.Dec.{leb}
+use borrow.Author.Tests.{le-leb, lt-leb, leb-true}
+use Rattle.answer.specs.Outcome.{Outcome, answer, refuse}
+use Rattle.answer.proofs.Outcomes.{passed}
+use Rattle.label.specs.declared.Four.{Four}
+use Rattle.sfdu.specs.declared.Leaf.{Leaf}
+use Rattle.sfdu.specs.Row.{Row, valueAt}
+use Rattle.sfdu.specs.Scan.{scan}
+use Rattle.sfdu.specs.Check.{rowsOfFile, counting, checkLabelled}
+use Rattle.sfdu.proofs.Checking.{accepted-says}
+use Rattle.text.specs.Decimal.{decimalText}
+use Rattle.text.proofs.Unpadded.{few-bytes}
+use Rattle.listing.specs.Line.{rowText, leafText}
+use Rattle.listing.specs.Listing.{rowsListed, lineOf, linesFrom}
+use Rattle.listing.proofs.FewRows.{few-rows}
+use Rattle.listing.proofs.RowAfterRow.{FindsRow}
+
+pub too-big-to-list : (f : List ℕ) → 65536 < length f → rowsListed f ≡ refuse 14 0
+unfolding rowsListed
+too-big-to-list f h = rw (lt-leb (length f) 65536 h)
+
+pub small-enough : (f : List ℕ) → length f ≤ 65536 → rowsListed f ≡ rowsOfFile f
+unfolding rowsListed
+small-enough f h = rw (le-leb (length f) 65536 h)
+
+pub check-is-the-count : (f : List ℕ) → length f ≤ 65536 → checkLabelled f ≡ counting (rowsListed f)
+unfolding checkLabelled
+check-is-the-count f h = ap counting (sym (small-enough f h))
+
+-- a file that is listed
+pub record Small (f : List ℕ) (rows : List Row) : Type 0 where
+  pub small : length f ≤ 65536
+  pub scanned : scan f ≡ answer rows
+  pub few : length rows * 20 ≤ 65536
+
+pub listed-is-small : (f : List ℕ) (rows : List Row) → rowsListed f ≡ answer rows → Small f rows
+unfolding rowsListed
+listed-is-small f rows e =
+    let (small, is) = passed 0 (leb (length f) 65536) 14 (rowsOfFile f) rows e in
+    let scanned = accepted-says f rows is .1 in
+    let bound : length f ≤ 65536 = leb-true _ _ small in
+    record { small = bound; scanned = scanned; few = omega (arith, bound, few-rows f rows scanned) }
+
+-- at most four digits, five and five, and eight other characters
+pub line-is-short : (number place size : ℕ) (d : Four) → number < 10000 → place < 100000 → size < 100000 → length (rowText number place size d) ≤ 22
+line-is-short number place size d h k l =
+    let tail : List ℕ = 32 ∷ d .a ∷ d .b ∷ d .c ∷ d .d ∷ 10 ∷ [] in
+    omega (
+      arith,
+      few-bytes 3 number h,
+      few-bytes 4 place k,
+      few-bytes 4 size l,
+      length-append (decimalText number) (32 ∷ (decimalText place ++ (32 ∷ (decimalText size ++ tail)))),
+      length-append (decimalText place) (32 ∷ (decimalText size ++ tail)),
+      length-append (decimalText size) tail,
+    )
+
+-- the line of the leaf that was found is the row's
+pub same-line : (f : List ℕ) (o : Outcome Leaf) (r : Row) (number : ℕ) → length f ≤ 65536 → (found : FindsRow f o r) → leafText number (found .leaf) ≡ lineOf f number r
+same-line f o r number small found =
+    let place : (found .leaf .place + 20) % 2 ^ 64 ≡ valueAt r = omega (arith, small, found .place, found .inside) in
+    rw (place, found .size, found .description)
+
+-- the lines of rows set end to end
+pub lines-append : (f : List ℕ) (number : ℕ) (xs ys : List Row) → linesFrom f number (xs ++ ys) ≡ linesFrom f number xs ++ linesFrom f (number + length xs) ys
+lines-append f number [] ys = ap (λ (k : ℕ). linesFrom f k ys) (sym (add-zero number))
+lines-append f number (r ∷ xs) ys =
+    ap (λ (t : List ℕ). lineOf f number r ++ t) (lines-append f (suc number) xs ys)
+    ∙ sym (append-assoc (lineOf f number r) (linesFrom f (suc number) xs) (linesFrom f (suc number + length xs) ys))
+    ∙ ap (λ (k : ℕ). (lineOf f number r ++ linesFrom f (suc number) xs) ++ linesFrom f k ys) {x = suc number + length xs} {y = number + suc (length xs)} (omega arith)

@@ -1,0 +1,84 @@
+-- In an accepted file, walking on from the end of each row finds the next one: rows come one after the other with no walk
+-- from the start. It follows from what walks for k leaves find (sfdu's `walk-reads-rows`) and how they go on (`next-leaf`).
+use Prim.Native.Nat.{ℕ, suc, _+_, _≤_, _<_}
+use native.Mathlib.Nat.{add-zero}
+use native.Mathlib.Omega.{arith}
+use mathlib.Core.Path.{_≡_, refl, _∙_, sym, ap}
+use mathlib.Core.List.{List, [], _∷_}
+use lib.ListN.{length, getD, take, drop}
+use lib.Seq.{getD-take, getD-drop}
+use Rattle.answer.specs.Outcome.{Outcome, answer, andThen}
+use Rattle.answer.specs.declared.Part.{Part}
+use Rattle.answer.proofs.Outcomes.{first-answered, answer-injective, after-answer}
+use Rattle.label.specs.declared.Label.{Label}
+use Rattle.label.specs.Head.{fourAt}
+use Rattle.label.specs.Label.{readLabel}
+use Rattle.label.proofs.RoundTrip.{read-says}
+use Rattle.sfdu.specs.declared.Leaf.{Leaf}
+use Rattle.sfdu.specs.Row.{Row, valueAt}
+use Rattle.sfdu.specs.Scan.{scan}
+use Rattle.sfdu.specs.Walk.{walkFrom}
+use Rattle.sfdu.specs.Find.{valueOf, nthRow, valueAtLeaf}
+use Rattle.sfdu.proofs.WalkLoop.{place-inside}
+use Rattle.sfdu.proofs.WalkReads.{walkAt, behind, walk-reads-rows, next-leaf, a-leaf-is-found, found-ends-inside}
+
+-- a walk of the file came to this row
+pub record FindsRow (f : List ℕ) (o : Outcome Leaf) (r : Row) : Type 0 where
+  pub leaf : Leaf
+  pub found : o ≡ answer leaf
+  pub place : leaf .place ≡ r .label
+  pub size : leaf .label .length ≡ r .size
+  pub description : leaf .label .description ≡ fourAt f (r .label + 8)
+  pub inside : valueAt r + r .size ≤ length f
+
+-- the walk came to the first of these rows, and walking on from its end to the next, and so on
+abbrev pub Finds : List ℕ → Outcome Leaf → List Row → Type 0
+Finds f o [] = Unit
+Finds f o (r ∷ rs) = FindsRow f o r × Finds f (walkFrom f (valueAt r + r .size) 0) rs
+
+-- the description of a label at a place of a file is bytes 8-11 there
+description-there : (f : List ℕ) (at : ℕ) (l : Label) → readLabel (drop at f) ≡ answer l → l .description ≡ fourAt f (at + 8)
+description-there f at l e = sym (ap (λ (m : Label). m .description) (read-says (drop at f) l e .fields)) ∙ four
+  where
+    byte : (i p : ℕ) → i < 12 → at + i ≡ p → getD (take 12 (drop at f)) i 0 ≡ getD f p 0
+    byte i p h e = getD-take 12 (drop at f) i 0 h ∙ getD-drop at f i 0 ∙ ap (λ (k : ℕ). getD f k 0) e
+
+    four : fourAt (take 12 (drop at f)) 8 ≡ fourAt f (at + 8)
+    four =
+        cc (
+          byte 8 (at + 8) (omega arith) refl,
+          byte 9 (at + 8 + 1) (omega arith) (omega arith),
+          byte 10 (at + 8 + 2) (omega arith) (omega arith),
+          byte 11 (at + 8 + 3) (omega arith) (omega arith),
+        )
+
+-- where walks for k leaves and more find these rows, the walk for k leaves comes to the first, and so on
+module _ (f : List ℕ) where
+  finds-from : (rs : List Row) (from k : ℕ) → walkFrom f from 0 ≡ walkAt f 0 k
+      → ((j : ℕ) → andThen (walkAt f 0 (k + j)) valueAtLeaf ≡ nthRow rs j) → Finds f (walkFrom f from 0) rs
+  finds-from [] from k here rows = tt
+  finds-from (r ∷ rs) from k here rows =
+      let (x, walked, value) = first-answered (walkAt f 0 k) valueAtLeaf (valueOf r) (ap (λ (j : ℕ). andThen (walkAt f 0 j) valueAtLeaf) (sym (add-zero k)) ∙ rows 0) in
+      let place : x .place ≡ r .label = omega (arith, ap (λ (v : Part). v .place) (answer-injective value)) in
+      let size : x .label .length ≡ r .size = ap (λ (v : Part). v .count) (answer-injective value) in
+      let inside = found-ends-inside f 0 k x walked in
+      let end : valueAt r + r .size ≡ behind x = omega (arith, place, size) in (
+        record {
+          leaf = x;
+          found = here ∙ walked;
+          place = place;
+          size = size;
+          description = description-there f (x .place) (x .label) (a-leaf-is-found f 0 k x walked .reads) ∙ ap (λ (p : ℕ). fourAt f (p + 8)) place;
+          inside = omega (arith, end, inside);
+        },
+        finds-from rs (valueAt r + r .size) (k + 1)
+            (ap (λ (p : ℕ). walkFrom f p 0) end ∙ place-inside f (behind x) 0 inside
+            ∙ sym (next-leaf f 0 k ∙ after-answer (walkAt f 0 k) (λ y. walkAt f (behind y) 0) x walked))
+            (λ j. ap (λ (m : ℕ). andThen (walkAt f 0 m) valueAtLeaf) {x = k + 1 + j} {y = k + suc j} (omega arith) ∙ rows (suc j)),
+      )
+
+  -- the theorem: from the first byte of an accepted file, row after row
+  pub finds-rows : (rows : List Row) → scan f ≡ answer rows → Finds f (walkFrom f 0 0) rows
+  finds-rows rows e =
+      finds-from rows 0 0 (place-inside f 0 0 (omega arith))
+      (λ j. ap (λ (k : ℕ). andThen (walkAt f 0 k) valueAtLeaf) {x = 0 + j} {y = j} (omega arith) ∙ walk-reads-rows f rows e j)

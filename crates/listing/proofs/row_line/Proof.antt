@@ -1,0 +1,67 @@
+-- `listing::row_line` meets its contract: six pieces in the order of `rowText`.
+use Prim.Native.Nat.{ℕ}
+use mathlib.Core.Path.{subst}
+use Rattle.listing.specs.Line.{Holds, rowText}
+use Rattle.listing.proofs.Lines.{six-pieces}
+use borrow.Author.Needs.{needs}
+use Rattle.listing.proofs.row_line.Statement.{statement}
+use Rattle.listing.proofs.row_line.Tie as tie
+
+wrapping-add-usize-requires : tie.Need-wrapping-add-usize-requires
+wrapping-add-usize-requires c κs = search needs
+
+nothing-requires : tie.Need-nothing-requires
+nothing-requires c κs = search needs
+
+with-number-requires : tie.Need-with-number-requires
+with-number-requires c κs = search needs
+
+slice-aggregate-with : tie.Need-slice-aggregate-with
+slice-aggregate-with c = search needs
+
+with-requires : tie.Need-with-requires
+with-requires c κs = search needs
+
+with-number-requires-2 : tie.Need-with-number-requires-2
+with-number-requires-2 c κs = search needs
+
+slice-aggregate-with-2 : tie.Need-slice-aggregate-with-2
+slice-aggregate-with-2 c = search needs
+
+with-requires-2 : tie.Need-with-requires-2
+with-requires-2 c κs = search needs
+
+with-number-requires-3 : tie.Need-with-number-requires-3
+with-number-requires-3 c κs = search needs
+
+slice-aggregate-with-3 : tie.Need-slice-aggregate-with-3
+slice-aggregate-with-3 c = search needs
+
+with-requires-3 : tie.Need-with-requires-3
+with-requires-3 c κs = search needs
+
+returns : tie.Need-returns
+returns c =
+    let a = c .before .before .before .before .before .before .before .before .before .before .before .before .before .args in
+    let l = a .leaf .label in
+    let place = c .before .before .before .before .before .before .before .before .before .before .wrapping-add-usize in
+    subst (λ (at : ℕ). Holds (c .with3 .result) (rowText (a .number) at (l .length) (l .description))) (place .ensures)
+    (six-pieces (c .before .before .before .before .before .before .before .before .before .nothing .ensures) (c .before .before .before .before .before .before .before .before .with-number .ensures .0) (c .before .before .before .before .before .before .with .ensures)
+    (c .before .before .before .before .before .with-number2 .ensures .0) (c .before .before .before .with2 .ensures) (c .before .before .with-number3 .ensures .0) (c .with3 .ensures))
+
+pub row-line-spec : {M : Type 1} → statement M
+row-line-spec =
+    tie.close
+    (tie.spec
+    wrapping-add-usize-requires
+    nothing-requires
+    with-number-requires
+    slice-aggregate-with
+    with-requires
+    with-number-requires-2
+    slice-aggregate-with-2
+    with-requires-2
+    with-number-requires-3
+    slice-aggregate-with-3
+    with-requires-3
+    returns)

@@ -1,0 +1,3 @@
+pub mod Unpadded
+pub mod ReadBack
+pub mod Spelling
