@@ -12,11 +12,13 @@ use Rattle.waveform.proofs.Cases as waveform
 use Rattle.waveform.proofs.JumpIsRead as waveform-jump
 use Rattle.reader.specs.Rows.{checkFile}
 use Rattle.reader.specs.Read.{readRow, jumpRow}
+use Rattle.text.specs.Decimal.{decimalText}
+use Rattle.listing.specs.Listing.{rowsListed, listingOf}
 use Rattle.altimeter.specs.Limits.{table}
 use Rattle.cases.specs.Table.{Table}
 
 pub cases-hold : Table
-unfolding readLabel object level objects scan rowsOfFile checkLabelled findRow buildIndex checkIndex checkFile readRow jumpRow table odd trailingZeros
+unfolding readLabel object level objects scan rowsOfFile checkLabelled findRow buildIndex checkIndex decimalText rowsListed listingOf checkFile readRow jumpRow table odd trailingZeros
 cases-hold = record {
   empty-is-accepted = refl;
   empty-has-no-row = λ a c. refl;
@@ -24,6 +26,7 @@ cases-hold = record {
   two-rows = refl;
   row-0 = refl;
   row-1 = refl;
+  its-listing = refl;
   one-entry = refl;
   its-index = refl;
   shorter-outside = refl;

@@ -16,7 +16,8 @@ use Rattle.reader.specs.Read.{readRow, jumpRow}
 use Rattle.reader.specs.declared.Kind.the-variants.{Labelled, Waveform}
 use Rattle.vax.specs.Numbers.{vaxF}
 use Rattle.altimeter.specs.Verdict.{below, inside, above, verdictOf}
-use Rattle.cases.specs.Files.{sixtyThree, shorterOutside, longerInside}
+use Rattle.listing.specs.Listing.{listingOf}
+use Rattle.cases.specs.Files.{sixtyThree, printed, shorterOutside, longerInside}
 
 pub record Table : Type 0 where
   -- 1: the empty file is accepted with 0 rows; row 0 gives 6
@@ -24,13 +25,14 @@ pub record Table : Type 0 where
   pub empty-has-no-row : (a c : ℕ) → readRow Labelled [] 0 a c ≡ refuse 6 0
   -- 2: 19 zero bytes as a labelled file give 1 at 0
   pub nineteen-bytes : checkFile Labelled (replicate 19 0) ≡ refuse 1 0
-  -- 3: the 63-byte file has rows of 3 and 0 bytes, at 40 and 63; its index is the one entry 20
+  -- 3: the 63-byte file has rows of 3 and 0 bytes, at 40 and 63, and is listed so; its index is the one entry 20
   pub two-rows :
       rowsOfFile sixtyThree
       ≡ answer
       (record { label = 20; size = 3; depth = 2; outermost = 0 } ∷ record { label = 43; size = 0; depth = 2; outermost = 0 } ∷ [])
   pub row-0 : readRow Labelled sixtyThree 0 0 3 ≡ answer (record { place = 40; count = 3 })
   pub row-1 : readRow Labelled sixtyThree 1 0 0 ≡ answer (record { place = 63; count = 0 })
+  pub its-listing : listingOf sixtyThree ≡ printed
   pub one-entry : buildIndex sixtyThree 1 ≡ answer (20 ∷ [])
   pub its-index : checkIndex sixtyThree (20 ∷ []) ≡ answer tt
   -- 4: with outer length 42 it gives 1 at 43

@@ -5,4 +5,3 @@ pub mod RowAfterRow
 pub mod Listed
 pub mod Underway
 pub mod Whole
-pub mod DocumentExample
