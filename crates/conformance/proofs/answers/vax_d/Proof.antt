@@ -1,0 +1,20 @@
+-- `vax_d` is safe: the float has the value that `vax` promises, so it is no NaN.
+use Rattle.conformance.proofs.Floats.{a-value-is-no-nan}
+use borrow.Author.Needs.{needs}
+use Rattle.conformance.proofs.answers.vax_d.Statement.{statement}
+use Rattle.conformance.proofs.answers.vax_d.Tie as tie
+
+vax-d-requires : tie.Need-vax-d-requires
+vax-d-requires c κs = search needs
+
+float-requires : tie.Need-float-requires
+float-requires c κs = (search needs, λ x e. a-value-is-no-nan x _ _ _ (c .before .vax-d .ensures .1 x e))
+
+same-length : tie.Need-same-length
+same-length c = search needs
+
+returns : tie.Need-returns
+returns c = search needs
+
+pub vax-d-spec : {M : Type 1} → statement M
+vax-d-spec = tie.close (tie.spec vax-d-requires float-requires same-length returns)

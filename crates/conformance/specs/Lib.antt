@@ -1,0 +1,4 @@
+pub mod Gathered
+pub mod Lent
+pub mod Floats
+pub mod Lines
