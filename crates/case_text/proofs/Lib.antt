@@ -5,4 +5,5 @@ pub mod HexDigits
 pub mod Grown
 pub mod Taking
 pub mod Entries
-pub mod ReadBack
+pub mod BytesReadBack
+pub mod NumbersReadBack

@@ -37,21 +37,21 @@ pub fn flush(g: Gathered, out: &[u8]) -> Gathered
     }
 }
 
-// Adds a text to what waits. Where it does not fit, what waits is written first, and then the text.
-pub fn put(g: Gathered, out: &mut [u8], text: &[u8]) -> Gathered
+// Adds bytes to what waits. Where they do not fit, what waits is written first, and then they are.
+pub fn put(g: Gathered, out: &mut [u8], added: &[u8]) -> Gathered
     requires { ⌜ Within g (now out) ⌝ }
     ensures { λ r. ⌜ Within r (now (out .exit)) ⌝ }
 {
     let used = g.used;
-    if text.len() <= out.len() - used {
-        bytes::copy(text, &mut out[used..]);
+    if added.len() <= out.len() - used {
+        bytes::copy(added, &mut out[used..]);
         return Gathered {
-            used: used + text.len(),
+            used: used + added.len(),
             failed: g.failed,
         };
     }
     let h = flush(g, out);
-    let is_written = io::write_all(STDOUT_FILENO, text);
+    let is_written = io::write_all(STDOUT_FILENO, added);
     Gathered {
         used: 0,
         failed: h.failed | !is_written,
@@ -63,9 +63,10 @@ fn put_number(g: Gathered, out: &mut [u8], n: usize) -> Gathered
     requires { ⌜ Within g (now out) ⌝ }
     ensures { λ r. ⌜ Within r (now (out .exit)) ⌝ }
 {
-    let mut digits = [0u8; 20];
-    let k = io::decimal(n as u64, &mut digits);
-    put(g, out, &digits[..k])
+    let numeral = text::decimal(n);
+    let digits = numeral.digits;
+    let first = numeral.first;
+    put(g, out, &digits[first..])
 }
 
 // Bytes in hexadecimal.
