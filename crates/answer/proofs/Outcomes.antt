@@ -3,7 +3,7 @@ use Prim.Native.Nat.{ℕ}
 use native.Mathlib.Omega.{arith}
 use mathlib.Core.Path.{_≡_, refl, sym, ap}
 use mathlib.Core.Bool.{Bool, true, false}
-use Rattle.answer.specs.Outcome.{Outcome, answer, refuse, needAt, andThen}
+use Rattle.answer.specs.Outcome.{Outcome, answer, refuse, needAt, andThen, mapped}
 
 -- an answer is no refusal
 pub answer-is-no-refusal : {A : Type 0} {a : A} {n p : ℕ} → answer a ≡ refuse n p → ⊥
@@ -30,11 +30,16 @@ andThen-agrees (answer a) f g h = h a
 andThen-agrees (refuse n p) f g h = refl
 
 -- a chain whose links after the first only answer is refused where the first is
-pub refused-first : {A B : Type 0} (o : Outcome A) (f : A → B) {n p : ℕ} → andThen o (λ a. answer (f a)) ≡ refuse n p → o ≡ refuse n p
+pub refused-first : {A B : Type 0} (o : Outcome A) (f : A → B) {n p : ℕ} → mapped f o ≡ refuse n p → o ≡ refuse n p
 refused-first (answer a) f e = absurd (answer-is-no-refusal e)
 refused-first (refuse n p) f e = cc
 
--- the same, where it agrees on the answer that was given
+-- something of an answer was given: the answer that it is of
+pub mapped-answer : {A B : Type 0} (f : A → B) (o : Outcome A) (b : B) → mapped f o ≡ answer b → (a : A) × (o ≡ answer a) × (f a ≡ b)
+mapped-answer f (answer a) b e = (a, refl, answer-injective e)
+mapped-answer f (refuse n p) b e = absurd (answer-is-no-refusal (sym e))
+
+-- what follows may be replaced where it agrees on the answer that was given
 pub andThen-agrees-where : {A B : Type 0} (o : Outcome A) (f g : A → Outcome B) → ((a : A) → o ≡ answer a → f a ≡ g a) → andThen o f ≡ andThen o g
 andThen-agrees-where (answer a) f g h = h a refl
 andThen-agrees-where (refuse n p) f g h = refl

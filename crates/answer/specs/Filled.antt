@@ -5,12 +5,11 @@ use Prim.Native.Nat.{ℕ}
 use mathlib.Core.Path.{_≡_}
 use mathlib.Core.List.{List, _++_}
 use lib.ListN.{length, drop}
-use Rattle.answer.specs.Outcome.{Outcome, answer, refuse}
+use Rattle.answer.specs.Outcome.{Outcome, answer, refuse, mapped}
 
 -- how much is written
 abbrev pub amount : Outcome (List ℕ) → Outcome ℕ
-amount (answer w) = answer (length w)
-amount (refuse n p) = refuse n p
+amount x = mapped length x
 
 -- the lent memory after the call, from what it held before
 abbrev pub filled : Outcome (List ℕ) → List ℕ → List ℕ

@@ -22,3 +22,7 @@ module _ {A : Type 0} where
 abbrev pub andThen : {A B : Type 0} → Outcome A → (A → Outcome B) → Outcome B
 andThen (answer a) f = f a
 andThen (refuse n p) f = refuse n p
+
+-- something of an answer; a refusal stays as it is
+abbrev pub mapped : {A B : Type 0} → (A → B) → Outcome A → Outcome B
+mapped f o = andThen o (λ a. answer (f a))

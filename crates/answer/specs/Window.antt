@@ -24,6 +24,10 @@ fits r a c = leb a r && leb c (r - a)
 abbrev pub windowOf : ℕ → ℕ → ℕ → ℕ → Outcome Part
 windowOf first r a c = need (fits r a c) 7 (answer (record { place = first + a; count = c }))
 
+-- the window (a, c) of a row that is a part of a file
+abbrev pub windowIn : ℕ → ℕ → Part → Outcome Part
+windowIn a c row = windowOf (row .place) (row .count) a c
+
 -- the bytes of a file from a place on, as many as are there and no more than asked
 abbrev pub bytesAt : List ℕ → ℕ → ℕ → List ℕ
 bytesAt f place count = take count (drop place f)

@@ -1,8 +1,13 @@
 // What every call of this library answers: a value, or one of the refusals of document 01's table
-// with its place. Renders the section "Refusals and what they carry". It knows no file format.
+// with its place; parts of a lent file, and windows. Renders the section "Refusals and what they
+// carry". It knows no file format.
 ghost use mathlib.Core.Path.{_≡_};
+ghost use Prim.Native.Nat.{_<_};
 ghost use Rattle.answer.specs.Refusal.{numberOf};
 ghost use Rattle.answer.specs.Window.{fits, bytesAt};
+
+// The most bytes that a file may have; more is refusal 14.
+pub const LARGEST_FILE: usize = 4294967295;
 
 // The refusals of document 01's table, in its order. Document 02 adds two more, 16 and 17.
 pub enum Refusal {
@@ -62,6 +67,13 @@ pub struct Part {
 pub enum Show {
     Is(Part),
     Refused(Refusal, usize),
+}
+
+// A byte as a number to calculate with.
+pub fn wide(byte: u8) -> usize
+    ensures { λ r. ⌜ (r ≡ byte) × (r < 256) ⌝ }
+{
+    byte as usize
 }
 
 // Whether a window of `c` bytes from byte `a` on fits a row of `size` bytes.

@@ -9,7 +9,7 @@ use mathlib.Core.Option.{Option, some}
 use lib.ListN.{length}
 use lib.Dec.{leb, eqb}
 use borrow.Author.Tests.{lt-ltb, le-ltb, le-leb, lt-leb, eq-eqb, ne-eqb}
-use Rattle.label.specs.Head.{isDigit}
+use Rattle.text.specs.Digits.{isDigit}
 use Rattle.case_text.specs.Taken.{onlyIf, isDash, noneIf}
 use Rattle.case_text.specs.Hexadecimal.{isLetter, digitValue, allDigits, isHexadecimal, pairs, bytesOf, digitOf, digitsOfAll, textOfBytes}
 use Rattle.case_text.proofs.HexDigits.{a-figure, a-letter}

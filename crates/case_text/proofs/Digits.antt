@@ -11,9 +11,9 @@ use lib.ListN.{length, getD, drop}
 use lib.Seq.{drop-cons}
 use lib.Dec.{eqb}
 use borrow.Author.Tests.{le-leb, lt-leb}
-use Rattle.label.specs.Head.{isDigit}
-use Rattle.label.specs.Length.{given, decimal}
-use Rattle.label.proofs.Decimal.{a-digit-counts, too-low-is-none, too-high-is-none}
+use Rattle.text.specs.Digits.{isDigit}
+use Rattle.text.specs.Digits.{given, decimal}
+use Rattle.text.proofs.Digits.{a-digit-counts, too-low-is-none, too-high-is-none}
 use Rattle.case_text.specs.Number.{plain, upTo}
 
 -- ---- zeros in front

@@ -8,7 +8,7 @@ use mathlib.Core.Option.{Option, none, some}
 use lib.ListN.{length, take, drop}
 use lib.Dec.{leb}
 use borrow.Author.Tests.{leb-true}
-use Rattle.label.specs.Length.{given, decimal}
+use Rattle.text.specs.Digits.{given, decimal}
 use Rattle.case_text.specs.Pieces.{nextMark}
 use Rattle.case_text.specs.Number.{plain, upTo, numberUpTo}
 use Rattle.case_text.specs.Numbers.{entryOf, isSome, valueOf, allEntries, entries}

@@ -11,7 +11,7 @@ use lib.Seq.{drop-cons}
 use lib.Dec.{leb, eqb}
 use borrow.Author.Tests.{le-leb, lt-leb, eqb-true}
 use Rattle.answer.proofs.Tests.{both-hold}
-use Rattle.label.specs.Head.{isDigit}
+use Rattle.text.specs.Digits.{isDigit}
 use Rattle.case_text.specs.Hexadecimal.{isLetter, digitValue, allDigits, isHexadecimal, pairs}
 
 -- ---- one byte

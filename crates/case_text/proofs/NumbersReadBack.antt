@@ -10,8 +10,8 @@ use lib.ListN.{length, getD}
 use lib.Dec.{leb, eqb}
 use borrow.Author.Tests.{le-leb, leb-true, ne-eqb}
 use Rattle.answer.proofs.Tests.{both-hold}
-use Rattle.label.specs.Head.{isDigit}
-use Rattle.label.specs.Length.{given, decimal, digitsOf}
+use Rattle.text.specs.Digits.{isDigit}
+use Rattle.text.specs.Digits.{given, decimal, digitsOf}
 use Rattle.text.specs.Decimal.{either, unpadded, decimalText}
 use Rattle.text.proofs.ReadBack.{decimal-reads-back}
 use Rattle.case_text.specs.Pieces.{onFirst, inFront, split}

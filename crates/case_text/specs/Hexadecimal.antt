@@ -6,7 +6,7 @@ use mathlib.Core.List.{List, [], _∷_, _++_}
 use mathlib.Core.Option.{Option, none, some}
 use lib.ListN.{length}
 use lib.Dec.{leb, ltb, eqb}
-use Rattle.label.specs.Head.{isDigit}
+use Rattle.text.specs.Digits.{isDigit}
 use Rattle.case_text.specs.Taken.{onlyIf, isDash, noneIf}
 
 -- one of `a` to `f`

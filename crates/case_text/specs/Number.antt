@@ -5,7 +5,7 @@ use mathlib.Core.Bool.{Bool, true, false, not}
 use mathlib.Core.List.{List, [], _∷_}
 use mathlib.Core.Option.{Option, none, some}
 use lib.Dec.{leb, eqb}
-use Rattle.label.specs.Length.{given, decimal}
+use Rattle.text.specs.Digits.{given, decimal}
 use Rattle.case_text.specs.declared.Number.{Number}
 use Rattle.case_text.specs.declared.Number.the-variants.{Is, Bad}
 

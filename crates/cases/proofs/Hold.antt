@@ -1,24 +1,23 @@
--- The cases hold: the small files and numbers by computing, those about every file of a size by the waveform crate's laws.
-use Prim.Native.Nat.{ℕ}
-use mathlib.Core.Path.{_≡_, refl, _∙_}
+-- The cases hold: the small files and numbers by computing, those about every file of a size by laws over all files.
+use mathlib.Core.Path.{refl}
 use lib.Count.{trailingZeros}
 use lib.Ieee.{odd}
 use Rattle.label.specs.Label.{readLabel}
 use Rattle.sfdu.specs.Scan.{object, level, objects, scan}
 use Rattle.sfdu.specs.Check.{rowsOfFile, checkLabelled}
-use Rattle.sfdu.specs.Find.{findRow}
+use Rattle.walk.specs.Find as labelled
 use Rattle.row_index.specs.Index.{buildIndex, checkIndex}
 use Rattle.waveform.proofs.Cases as waveform
-use Rattle.waveform.proofs.JumpIsRead as waveform-jump
 use Rattle.reader.specs.Rows.{checkFile}
-use Rattle.reader.specs.Read.{readRow, jumpRow}
+use Rattle.reader.specs.Read.{findRow, jumpTo, readRow, jumpRow}
 use Rattle.text.specs.Decimal.{decimalText}
 use Rattle.listing.specs.Listing.{rowsListed, listingOf}
 use Rattle.altimeter.specs.Limits.{table}
 use Rattle.cases.specs.Table.{Table}
+use Rattle.cases.proofs.Row31.{row-31, jump-to-row-31, row-31-at-1024, jump-to-row-31-at-1024}
 
 pub cases-hold : Table
-unfolding readLabel object level objects scan rowsOfFile checkLabelled findRow buildIndex checkIndex decimalText rowsListed listingOf checkFile readRow jumpRow table odd trailingZeros
+unfolding readLabel object level objects scan rowsOfFile checkLabelled labelled.findRow findRow buildIndex checkIndex decimalText rowsListed listingOf checkFile readRow jumpRow table odd trailingZeros
 cases-hold = record {
   empty-is-accepted = refl;
   empty-has-no-row = λ a c. refl;
@@ -33,9 +32,10 @@ cases-hold = record {
   longer-inside = refl;
   one-byte-short = waveform.one-byte-short;
   no-bytes = refl;
-  row-31 = λ f c e. waveform.row-31 f e c;
-  row-31-at-1024 = λ f c e. waveform.row-31-at-1024 f e c;
-  jump-to-row-31-at-1024 = λ f xs c e h. waveform-jump.jump-is-read f 31 1024 c ∙ waveform.row-31-at-1024 f e c h;
+  row-31 = λ f c e. row-31 f e c;
+  jump-to-row-31 = λ f xs c e. jump-to-row-31 f e c xs;
+  row-31-at-1024 = λ f c e. row-31-at-1024 f e c;
+  jump-to-row-31-at-1024 = λ f xs c e. jump-to-row-31-at-1024 f e c xs;
   sample-0 = waveform.sample-0;
   sample-127 = waveform.sample-127;
   sample-128 = waveform.sample-128;

@@ -1,1 +1,2 @@
+pub mod Row31
 pub mod Hold

@@ -7,9 +7,9 @@ use mathlib.Core.List.{List, [], _∷_}
 use lib.ListN.{length, replicate}
 use lib.IntN.{pos, negℤ}
 use lib.Ieee.{fin}
-use Rattle.answer.specs.Outcome.{answer, refuse}
+use Rattle.answer.specs.Outcome.{answer, refuse, mapped}
 use Rattle.sfdu.specs.Check.{rowsOfFile}
-use Rattle.row_index.specs.Index.{buildIndex, checkIndex}
+use Rattle.row_index.specs.Index.{indexOf, buildIndex, checkIndex}
 use Rattle.waveform.specs.Sample.{twiceAmplitude}
 use Rattle.reader.specs.Rows.{checkFile}
 use Rattle.reader.specs.Read.{readRow, jumpRow}
@@ -33,7 +33,7 @@ pub record Table : Type 0 where
   pub row-0 : readRow Labelled sixtyThree 0 0 3 ≡ answer (record { place = 40; count = 3 })
   pub row-1 : readRow Labelled sixtyThree 1 0 0 ≡ answer (record { place = 63; count = 0 })
   pub its-listing : listingOf sixtyThree ≡ printed
-  pub one-entry : buildIndex sixtyThree 1 ≡ answer (20 ∷ [])
+  pub one-entry : mapped indexOf (buildIndex sixtyThree 1) ≡ answer (20 ∷ [])
   pub its-index : checkIndex sixtyThree (20 ∷ []) ≡ answer tt
   -- 4: with outer length 42 it gives 1 at 43
   pub shorter-outside : checkFile Labelled shorterOutside ≡ refuse 1 43
@@ -42,8 +42,11 @@ pub record Table : Type 0 where
   -- 7: a waveform file of 2,079 bytes gives 12; of 0 bytes, 0 rows
   pub one-byte-short : (f : List ℕ) → length f ≡ 2079 → checkFile Waveform f ≡ refuse 12 0
   pub no-bytes : checkFile Waveform [] ≡ answer 0
-  -- 8: in a file of 32 waveform rows, row 31's samples begin at 64,512; its window at 1,024 begins at 65,536. Read or jumped to
+  -- 8: in a file of 32 waveform rows, row 31's samples begin at 64,512; its window at 1,024 begins at 65,536. Each is stated of
+  -- reading and of the jump
   pub row-31 : (f : List ℕ) (c : ℕ) → length f ≡ 2080 * 32 → c ≤ 2048 → readRow Waveform f 31 0 c ≡ answer (record { place = 64512; count = c })
+  pub jump-to-row-31 : (f xs : List ℕ) (c : ℕ) → length f ≡ 2080 * 32 → c ≤ 2048
+      → jumpRow Waveform f xs 31 0 c ≡ answer (record { place = 64512; count = c })
   pub row-31-at-1024 : (f : List ℕ) (c : ℕ) → length f ≡ 2080 * 32 → c ≤ 1024
       → readRow Waveform f 31 1024 c ≡ answer (record { place = 65536; count = c })
   pub jump-to-row-31-at-1024 : (f xs : List ℕ) (c : ℕ) → length f ≡ 2080 * 32 → c ≤ 1024

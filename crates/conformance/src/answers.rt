@@ -78,7 +78,7 @@ pub fn write_label(
     requires { ⌜ Within g (now out) ⌝ }
     ensures { λ r. ⌜ Within r (now (out .exit)) ⌝ }
 {
-    let h = count(label::write_label(head, length, buffer), g, out);
+    let h = count(label_writer::write_label(head, length, buffer), g, out);
     print::part_bytes(h, out, buffer)
 }
 

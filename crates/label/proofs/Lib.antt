@@ -1,4 +1,3 @@
-pub mod Decimal
+pub mod LengthField
 pub mod Reading
-pub mod Writing
-pub mod RoundTrip
+pub mod Read

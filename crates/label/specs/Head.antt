@@ -1,19 +1,23 @@
 -- Bytes 0-11 of a label (document 01, the table of "The label": bytes 0-3 the agency, 4 the version, 5 the class,
--- 6-7 `00`, 8-11 the description). Characters are ASCII: `A` is 65, `Z` 90, `0` 48, `9` 57.
+-- 6-7 `00`, 8-11 the description). Characters are ASCII: `A` is 65, `Z` 90, `0` 48, `1` 49.
 use Prim.Native.Nat.{ℕ, _+_}
 use mathlib.Core.Bool.{Bool, _&&_, _||_}
 use mathlib.Core.List.{List}
-use lib.ListN.{getD}
+use lib.ListN.{length, getD}
 use lib.Dec.{leb, eqb}
+use Rattle.text.specs.Digits.{isDigit}
 use Rattle.label.specs.declared.Four.{Four}
+
+-- how many bytes a label has, and how many of them stand before its length field
+abbrev pub labelSize : ℕ
+labelSize = 20
+
+abbrev pub headSize : ℕ
+headSize = 12
 
 -- one of `A` to `Z`
 abbrev pub isCapital : ℕ → Bool
 isCapital b = leb 65 b && leb b 90
-
--- one of `0` to `9`
-abbrev pub isDigit : ℕ → Bool
-isDigit b = leb 48 b && leb b 57
 
 -- four characters from place i on
 abbrev pub fourAt : List ℕ → ℕ → Four
@@ -40,3 +44,7 @@ isForm f = eqb (f .a) 49 && isCapital (f .b) && (eqb (f .c) 48 && eqb (f .d) 48)
 -- bytes 0-11 are as the table says
 abbrev pub headGood : List ℕ → Bool
 headGood s = isAgency (fourAt s 0) && (isForm (fourAt s 4) && isDescription (fourAt s 8))
+
+-- these are bytes 0-11 of a label ("a count other than twelve is 2")
+abbrev pub isHead : List ℕ → Bool
+isHead head = eqb (length head) headSize && headGood head

@@ -2,3 +2,4 @@ pub mod Head
 pub mod Length
 pub mod Opened
 pub mod Label
+pub mod Private

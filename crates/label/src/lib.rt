@@ -1,18 +1,22 @@
-// The 20-byte CCSDS label of one object: read from bytes and written to them. Renders document 01,
-// "The label" (CCSDS 620.0 version 1; source documents 001, section 3.5.12, and 004, section
-// 4.4.146). How labelled objects stand in a file is left to the crates above.
-use answer::Count;
+// The 20-byte CCSDS label of one object, read from bytes. Renders document 01, "The label" (CCSDS
+// 620.0 version 1; source documents 001, section 3.5.12, and 004, section 4.4.146). Writing a label,
+// and how labelled objects stand in a file, is left to the crates above.
 use answer::Refusal;
 ghost use mathlib.Core.Path.{_≡_};
-ghost use Prim.Native.Nat.{_+_, _%_, _≤_, _<_};
+ghost use Prim.Native.Nat.{_+_, _≤_};
 ghost use mathlib.Core.Bool.{_||_};
-ghost use lib.ListN.{length, drop, length as size};
-ghost use Rattle.answer.specs.Counted.{counted};
-ghost use Rattle.answer.specs.Filled.{Writes};
-ghost use Rattle.label.specs.Head.{isCapital, isDigit, isAgency, isForm, isDescription, headGood, fourAt};
-ghost use Rattle.label.specs.Length.{lengthOf, fieldRead, digitsOf};
+ghost use lib.ListN.{length, drop};
+ghost use Rattle.text.specs.Digits.{isDigit};
+ghost use Rattle.label.specs.Head.{isCapital, isAgency, isForm, isDescription, headGood, isHead, fourAt};
+ghost use Rattle.label.specs.Length.{lengthOf};
 ghost use Rattle.label.specs.Opened.{isOpened};
-ghost use Rattle.label.specs.Label.{told, labelOf, readLabel, writeLabel};
+ghost use Rattle.label.specs.Label.{told, labelOf, readLabel};
+ghost use Rattle.label.specs.Private.{fieldRead};
+
+// How many bytes a label has, and how many of them stand before its length field.
+pub const LABEL: usize = 20;
+
+pub const HEAD: usize = 12;
 
 // Four characters of a label: an agency or a description.
 pub struct Four {
@@ -41,12 +45,6 @@ pub enum LabelRead {
 enum Field {
     Is(usize),
     Bad,
-}
-
-fn wide(b: u8) -> usize
-    ensures { λ r. ⌜ (r ≡ b) × (r < 256) ⌝ }
-{
-    b as usize
 }
 
 // Whether a value of this class is itself divided into labelled objects.
@@ -104,6 +102,16 @@ fn head_is_good(s: &[u8]) -> bool
     is_agency(four_at(s, 0)) & (is_form(four_at(s, 4)) & is_description(four_at(s, 8)))
 }
 
+// Whether these are bytes 0-11 of a label, all twelve of them and no more.
+pub fn is_head(head: &[u8]) -> bool
+    ensures { λ r. ⌜ r ≡ isHead (now (head .entry)) ⌝ }
+{
+    if head.len() != HEAD {
+        return false;
+    }
+    head_is_good(head)
+}
+
 // The length field of a label's twenty bytes.
 fn length_field(b: &[u8]) -> Field
     requires { ⌜ length (now b) ≡ 20 ⌝ }
@@ -112,7 +120,7 @@ fn length_field(b: &[u8]) -> Field
     let mut n: usize = 0;
     let mut i: usize = 0;
     while i < 8 {
-        let digit = wide(b[12 + i]);
+        let digit = answer::wide(b[HEAD + i]);
         if digit < 48 {
             return Field::Bad;
         }
@@ -148,60 +156,8 @@ fn label_of(b: &[u8]) -> LabelRead
 pub fn read_label(s: &[u8]) -> LabelRead
     ensures { λ r. ⌜ told r ≡ readLabel (now (s .entry)) ⌝ }
 {
-    if s.len() < 20 {
+    if s.len() < LABEL {
         return LabelRead::Refused(Refusal::Short, 0);
     }
-    label_of(&s[..20])
-}
-
-fn digit_of(n: usize) -> u8
-    ensures { λ r. ⌜ r ≡ 48 + n % 10 ⌝ }
-{
-    48 + (n % 10) as u8
-}
-
-// The last eight decimal digits of a number, as characters.
-fn eight_digits(n: usize) -> [u8; 8]
-    ensures { λ r. ⌜ r ≡ digitsOf 8 n ⌝ }
-{
-    let n1 = n / 10;
-    let n2 = n1 / 10;
-    let n3 = n2 / 10;
-    let n4 = n3 / 10;
-    let n5 = n4 / 10;
-    let n6 = n5 / 10;
-    let n7 = n6 / 10;
-    [
-        digit_of(n7),
-        digit_of(n6),
-        digit_of(n5),
-        digit_of(n4),
-        digit_of(n3),
-        digit_of(n2),
-        digit_of(n1),
-        digit_of(n),
-    ]
-}
-
-// Writes the label with bytes 0-11 as lent and this length to the first 20 bytes of `out`.
-pub fn write_label(head: &[u8], length: usize, out: &mut [u8]) -> Count
-    ensures { λ r. ⌜ Writes (writeLabel (now (head .entry)) «length» (size (now (out .entry))))
-        (now (out .entry)) (counted r) (now (out .exit)) ⌝ }
-{
-    if head.len() != 12 {
-        return Count::Refused(Refusal::BadLabel, 0);
-    }
-    if !head_is_good(head) {
-        return Count::Refused(Refusal::BadLabel, 0);
-    }
-    if 99999999 < length {
-        return Count::Refused(Refusal::TooLong, 0);
-    }
-    if out.len() < 20 {
-        return Count::Refused(Refusal::Small, 0);
-    }
-    let digits = eight_digits(length);
-    bytes::copy(head, out);
-    bytes::copy(&digits, &mut out[12..]);
-    Count::Is(20)
+    label_of(&s[..LABEL])
 }

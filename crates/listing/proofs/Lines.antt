@@ -8,7 +8,7 @@ use lib.Seq.{take-all}
 use Rattle.text.specs.declared.Numeral.{Numeral}
 use Rattle.text.specs.Decimal.{Spells}
 use Rattle.listing.specs.declared.Line.{Line}
-use Rattle.listing.specs.Line.{Holds, Grown}
+use Rattle.listing.specs.Private.{Holds, Grown}
 
 pub holds-more : {line r : Line} {text piece : List ℕ} → Holds line text → Grown line piece r → Holds r (text ++ piece)
 holds-more {line} {r} {text} {piece} h g = record {

@@ -1,6 +1,6 @@
 -- The rows of a listed file and their lines: there are few of them, each line is short, and the line of the leaf that a walk
 -- came to is the line of its row.
-use Prim.Native.Nat.{ℕ, suc, _+_, _*_, _%_, _^_, _≤_, _<_}
+use Prim.Native.Nat.{ℕ, suc, _+_, _*_, _≤_, _<_}
 use native.Mathlib.Nat.{add-zero}
 use native.Mathlib.Omega.{arith}
 use mathlib.Core.Path.{_≡_, _∙_, sym, ap}
@@ -9,17 +9,19 @@ use lib.ListN.{length, length-append}
 use lib.Dec.{leb}
 use borrow.Author.Tests.{le-leb, lt-leb, leb-true}
 use Rattle.answer.specs.Outcome.{Outcome, answer, refuse}
+use Rattle.answer.specs.Size.{largestFile}
 use Rattle.answer.proofs.Outcomes.{passed}
 use Rattle.label.specs.declared.Four.{Four}
-use Rattle.sfdu.specs.declared.Leaf.{Leaf}
+use Rattle.walk.specs.declared.Leaf.{Leaf}
 use Rattle.sfdu.specs.Row.{Row, valueAt}
 use Rattle.sfdu.specs.Scan.{scan}
 use Rattle.sfdu.specs.Check.{rowsOfFile, counting, checkLabelled}
 use Rattle.sfdu.proofs.Checking.{accepted-says}
 use Rattle.text.specs.Decimal.{decimalText}
 use Rattle.text.proofs.Unpadded.{few-bytes}
-use Rattle.listing.specs.Line.{rowText, leafText}
+use Rattle.listing.specs.Line.{rowText}
 use Rattle.listing.specs.Listing.{rowsListed, lineOf, linesFrom}
+use Rattle.listing.specs.Private.{leafText}
 use Rattle.listing.proofs.FewRows.{few-rows}
 use Rattle.listing.proofs.RowAfterRow.{FindsRow}
 
@@ -38,6 +40,7 @@ check-is-the-count f h = ap counting (sym (small-enough f h))
 -- a file that is listed
 pub record Small (f : List ℕ) (rows : List Row) : Type 0 where
   pub small : length f ≤ 65536
+  pub no-larger : length f ≤ largestFile
   pub scanned : scan f ≡ answer rows
   pub few : length rows * 20 ≤ 65536
 
@@ -47,7 +50,7 @@ listed-is-small f rows e =
     let (small, is) = passed 0 (leb (length f) 65536) 14 (rowsOfFile f) rows e in
     let scanned = accepted-says f rows is .1 in
     let bound : length f ≤ 65536 = leb-true _ _ small in
-    record { small = bound; scanned = scanned; few = omega (arith, bound, few-rows f rows scanned) }
+    record { small = bound; no-larger = omega arith; scanned = scanned; few = omega (arith, bound, few-rows f rows scanned) }
 
 -- at most four digits, five and five, and eight other characters
 pub line-is-short : (number place size : ℕ) (d : Four) → number < 10000 → place < 100000 → size < 100000 → length (rowText number place size d) ≤ 22
@@ -64,9 +67,9 @@ line-is-short number place size d h k l =
     )
 
 -- the line of the leaf that was found is the row's
-pub same-line : (f : List ℕ) (o : Outcome Leaf) (r : Row) (number : ℕ) → length f ≤ 65536 → (found : FindsRow f o r) → leafText number (found .leaf) ≡ lineOf f number r
-same-line f o r number small found =
-    let place : (found .leaf .place + 20) % 2 ^ 64 ≡ valueAt r = omega (arith, small, found .place, found .inside) in
+pub same-line : (f : List ℕ) (o : Outcome Leaf) (r : Row) (number : ℕ) → (found : FindsRow f o r) → leafText number (found .leaf) ≡ lineOf f number r
+same-line f o r number found =
+    let place : found .leaf .place + 20 ≡ valueAt r = omega (arith, found .place) in
     rw (place, found .size, found .description)
 
 -- the lines of rows set end to end

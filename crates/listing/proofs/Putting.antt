@@ -8,7 +8,7 @@ use mathlib.Core.List.{List, [], _++_, append-assoc, append-nil}
 use lib.ListN.{length, take, drop, length-append, length-drop, drop-of-length-le}
 use lib.Seq.{take-length, take-all, take-at, drop-at, length-take-le, drop-drop}
 use borrow.Rule.Slice.PartMut.{putMid, postOf}
-use Rattle.listing.specs.Listing.{Puts}
+use Rattle.listing.specs.Private.{Puts}
 
 module _ (old piece back : List ℕ) (n at : ℕ) (room : length old ≡ n) (fits : at + length piece ≤ n)
     (copied : back ≡ take (length piece) piece ++ drop (length piece) (take (n - at) (drop at old))) where

@@ -1,5 +1,5 @@
 -- In an accepted file, walking on from the end of each row finds the next one: rows come one after the other with no walk
--- from the start. It follows from what walks for k leaves find (sfdu's `walk-reads-rows`) and how they go on (`next-leaf`).
+-- from the start. It follows from what walks for k leaves find (walk's `walk-reads-rows`) and how they go on (`walks-on`).
 use Prim.Native.Nat.{ℕ, suc, _+_, _≤_, _<_}
 use native.Mathlib.Nat.{add-zero}
 use native.Mathlib.Omega.{arith}
@@ -8,19 +8,21 @@ use mathlib.Core.List.{List, [], _∷_}
 use lib.ListN.{length, getD, take, drop}
 use lib.Seq.{getD-take, getD-drop}
 use Rattle.answer.specs.Outcome.{Outcome, answer, andThen}
+use Rattle.answer.specs.Size.{largestFile}
 use Rattle.answer.specs.declared.Part.{Part}
-use Rattle.answer.proofs.Outcomes.{first-answered, answer-injective, after-answer}
+use Rattle.answer.proofs.Outcomes.{first-answered, answer-injective}
 use Rattle.label.specs.declared.Label.{Label}
 use Rattle.label.specs.Head.{fourAt}
 use Rattle.label.specs.Label.{readLabel}
-use Rattle.label.proofs.RoundTrip.{read-says}
-use Rattle.sfdu.specs.declared.Leaf.{Leaf}
-use Rattle.sfdu.specs.Row.{Row, valueAt}
+use Rattle.label.proofs.Read.{read-says}
+use Rattle.walk.specs.declared.Leaf.{Leaf}
+use Rattle.sfdu.specs.Row.{Row, valueAt, valueOf}
 use Rattle.sfdu.specs.Scan.{scan}
-use Rattle.sfdu.specs.Walk.{walkFrom}
-use Rattle.sfdu.specs.Find.{valueOf, nthRow, valueAtLeaf}
-use Rattle.sfdu.proofs.WalkLoop.{place-inside}
-use Rattle.sfdu.proofs.WalkReads.{walkAt, behind, walk-reads-rows, next-leaf, a-leaf-is-found, found-ends-inside}
+use Rattle.walk.specs.Walk.{walkFrom}
+use Rattle.walk.specs.Find.{nthRow, valueAtLeaf}
+use Rattle.walk.proofs.WalkLoop.{place-inside}
+use Rattle.walk.proofs.WalkReads.{walkAt, behind, walk-reads-rows, a-leaf-is-found, found-ends-inside}
+use Rattle.walk.proofs.Finding.{walks-on}
 
 -- a walk of the file came to this row
 pub record FindsRow (f : List ℕ) (o : Outcome Leaf) (r : Row) : Type 0 where
@@ -53,7 +55,7 @@ description-there f at l e = sym (ap (λ (m : Label). m .description) (read-says
         )
 
 -- where walks for k leaves and more find these rows, the walk for k leaves comes to the first, and so on
-module _ (f : List ℕ) where
+module _ (f : List ℕ) (small : length f ≤ largestFile) where
   finds-from : (rs : List Row) (from k : ℕ) → walkFrom f from 0 ≡ walkAt f 0 k
       → ((j : ℕ) → andThen (walkAt f 0 (k + j)) valueAtLeaf ≡ nthRow rs j) → Finds f (walkFrom f from 0) rs
   finds-from [] from k here rows = tt
@@ -72,13 +74,12 @@ module _ (f : List ℕ) where
           inside = omega (arith, end, inside);
         },
         finds-from rs (valueAt r + r .size) (k + 1)
-            (ap (λ (p : ℕ). walkFrom f p 0) end ∙ place-inside f (behind x) 0 inside
-            ∙ sym (next-leaf f 0 k ∙ after-answer (walkAt f 0 k) (λ y. walkAt f (behind y) 0) x walked))
+            (ap (λ (p : ℕ). walkFrom f p 0) end ∙ walks-on f k x small walked)
             (λ j. ap (λ (m : ℕ). andThen (walkAt f 0 m) valueAtLeaf) {x = k + 1 + j} {y = k + suc j} (omega arith) ∙ rows (suc j)),
       )
 
   -- the theorem: from the first byte of an accepted file, row after row
   pub finds-rows : (rows : List Row) → scan f ≡ answer rows → Finds f (walkFrom f 0 0) rows
   finds-rows rows e =
-      finds-from rows 0 0 (place-inside f 0 0 (omega arith))
+      finds-from rows 0 0 (place-inside f 0 0 small (omega arith))
       (λ j. ap (λ (k : ℕ). andThen (walkAt f 0 k) valueAtLeaf) {x = 0 + j} {y = j} (omega arith) ∙ walk-reads-rows f rows e j)

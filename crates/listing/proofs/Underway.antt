@@ -6,15 +6,15 @@ use mathlib.Core.Path.{_≡_, refl, _∙_, sym, ap, ap₂, subst}
 use mathlib.Core.List.{List, [], _∷_, _++_, append-assoc, append-nil}
 use lib.ListN.{length, take, length-append, take-append-drop}
 use Rattle.answer.specs.Outcome.{answer, refuse}
-use Rattle.answer.proofs.Outcomes.{first-answered, answer-injective, answer-is-no-refusal}
+use Rattle.answer.proofs.Outcomes.{mapped-answer, answer-injective, answer-is-no-refusal}
 use Rattle.label.specs.Head.{fourAt}
-use Rattle.sfdu.specs.declared.Leaf.{Leaf}
+use Rattle.walk.specs.declared.Leaf.{Leaf}
 use Rattle.sfdu.specs.Row.{Row, valueAt}
 use Rattle.sfdu.specs.Check.{counting}
-use Rattle.sfdu.specs.Walk.{walkFrom}
+use Rattle.walk.specs.Walk.{walkFrom}
 use Rattle.listing.specs.declared.Line.{Line}
-use Rattle.listing.specs.Line.{Holds, Room, leafText}
-use Rattle.listing.specs.Listing.{rowsListed, lineOf, linesFrom, rowLines, Puts}
+use Rattle.listing.specs.Listing.{rowsListed, lineOf, linesFrom, rowLines}
+use Rattle.listing.specs.Private.{Holds, Room, leafText, Puts}
 use Rattle.listing.proofs.Putting.{puts-on}
 use Rattle.listing.proofs.RowAfterRow.{FindsRow, Finds, finds-rows}
 use Rattle.listing.proofs.Listed.{Small, listed-is-small, line-is-short, same-line, lines-append}
@@ -32,17 +32,17 @@ pub record Underway (f old : List ℕ) (rows at : ℕ) (out : List ℕ) (end fro
 
 pub sets-out : (f old : List ℕ) (rows at : ℕ) → counting (rowsListed f) ≡ answer rows → Underway f old rows at old at 0 0
 sets-out f old rows at e =
-    let (rs, is, many) = first-answered (rowsListed f) (λ xs. answer (length xs)) rows e in
+    let (rs, is, many) = mapped-answer length (rowsListed f) rows e in
     record {
       listed = [];
       rest = rs;
       accepted = is;
-      total = answer-injective many;
+      total = many;
       so-many = refl;
       put = record { ends = omega arith; leaves = sym (take-append-drop at old) };
       short = omega arith;
       as-long = refl;
-      onward = finds-rows f rs (listed-is-small f rs is .scanned);
+      onward = let small = listed-is-small f rs is in finds-rows f (small .no-larger) rs (small .scanned);
     }
 
 module _ {f old : List ℕ} {rows at : ℕ} {out : List ℕ} {end from number : ℕ} (u : Underway f old rows at out end from number) where
@@ -95,7 +95,7 @@ module _ {f old : List ℕ} {rows at : ℕ} {out : List ℕ} {end from number : 
   same-leaf = answer-injective (sym (finds .found) ∙ m .walked)
 
   line-is : leafText number leaf ≡ lineOf f number (next .row)
-  line-is = ap (leafText number) (sym same-leaf) ∙ same-line f (walkFrom f from 0) (next .row) number (rows-are-few .small) finds
+  line-is = ap (leafText number) (sym same-leaf) ∙ same-line f (walkFrom f from 0) (next .row) number finds
 
   end-is : leaf .place + 20 + leaf .label .length ≡ valueAt (next .row) + next .row .size
   end-is =

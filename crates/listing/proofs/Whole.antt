@@ -12,8 +12,9 @@ use Rattle.sfdu.specs.Check.{counting}
 use Rattle.text.specs.Decimal.{decimalText}
 use Rattle.text.proofs.Unpadded.{few-bytes}
 use Rattle.listing.specs.declared.Line.{Line}
-use Rattle.listing.specs.Line.{Holds, Room, headText}
-use Rattle.listing.specs.Listing.{rowsListed, rowLines, listingOf, Puts, Front}
+use Rattle.listing.specs.Line.{headText}
+use Rattle.listing.specs.Listing.{rowsListed, rowLines, listingOf, Front}
+use Rattle.listing.specs.Private.{Holds, Room, Puts}
 use Rattle.listing.proofs.Putting.{puts-on}
 use Rattle.listing.proofs.Listed.{listed-is-small}
 

@@ -3,7 +3,7 @@
 use Prim.Native.Nat.{ℕ, suc, _+_, _≤_}
 use mathlib.Core.Path.{_≡_}
 use mathlib.Core.List.{List, [], _∷_, _++_}
-use lib.ListN.{length, take, drop}
+use lib.ListN.{length, take}
 use lib.Dec.{leb}
 use Rattle.answer.specs.Outcome.{Outcome, answer, refuse, need}
 use Rattle.label.specs.Head.{fourAt}
@@ -11,9 +11,13 @@ use Rattle.sfdu.specs.Row.{Row, valueAt}
 use Rattle.sfdu.specs.Check.{rowsOfFile, counting}
 use Rattle.listing.specs.Line.{headText, rowText}
 
+-- the largest file that is listed
+abbrev pub largestListed : ℕ
+largestListed = 65536
+
 -- the rows of a file that is listed: 14, then the faults of the file
 unfoldable pub rowsListed : List ℕ → Outcome (List Row)
-rowsListed f = need (leb (length f) 65536) 14 (rowsOfFile f)
+rowsListed f = need (leb (length f) largestListed) 14 (rowsOfFile f)
 
 -- a row's line: the place of its value, its length, and its description from bytes 8-11 of its label
 abbrev pub lineOf : List ℕ → ℕ → Row → List ℕ
@@ -32,11 +36,6 @@ rowLines f (refuse n p) = []
 -- the listing: the first line, then the rows' lines
 unfoldable pub listingOf : List ℕ → List ℕ
 listingOf f = headText (counting (rowsListed f)) ++ rowLines f (rowsListed f)
-
--- the promise of a call that puts a text at place `at` of lent memory: where the text ends, and all else as it was
-pub record Puts (at : ℕ) (text old : List ℕ) (end : ℕ) (new : List ℕ) : Type 0 where
-  pub ends : end ≡ at + length text
-  pub leaves : new ≡ take at old ++ (text ++ drop end old)
 
 -- so many bytes at the front of lent memory: what lending them on, `&memory[..size]`, asks
 abbrev pub Front : ℕ → List ℕ → Type 0

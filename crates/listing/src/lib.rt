@@ -1,12 +1,12 @@
-// The listing of a labelled file, line by line and whole. Renders document 01, "The list program":
+// The listing of a labelled file as one text. Renders document 01, "The list program":
 // `rows N` and a line for each row, or `refused NUMBER PLACE` alone. Reading the file and printing
 // the text are left to the programs above.
 use answer::Count;
 use answer::Refusal;
-use sfdu::Leaf;
-use sfdu::Walked;
+use walk::Leaf;
+use walk::Walked;
 ghost use mathlib.Core.Path.{_≡_};
-ghost use Prim.Native.Nat.{_+_, _≤_};
+ghost use Prim.Native.Nat.{_+_, _≤_, _<_, _^_};
 ghost use mathlib.Core.List.{[]};
 ghost use lib.ListN.{length, take};
 ghost use Rattle.answer.specs.Counted.{counted};
@@ -14,13 +14,14 @@ ghost use Rattle.answer.specs.Outcome.{answer};
 ghost use Rattle.answer.specs.Filled.{Writes};
 ghost use Rattle.sfdu.specs.Check.{counting};
 ghost use Rattle.text.specs.Decimal.{decimalText};
-ghost use Rattle.listing.specs.Line.{Holds, Room, Grown, headText, leafText};
-ghost use Rattle.listing.specs.Listing.{rowsListed, rowLines, listingOf, Puts, Front};
+ghost use Rattle.listing.specs.Line.{headText};
+ghost use Rattle.listing.specs.Listing.{rowsListed, rowLines, listingOf, Front};
+ghost use Rattle.listing.specs.Private.{Holds, Room, Grown, leafText, Puts};
 
 // A line of text: the first `size` bytes. What stands behind them is left free.
-pub struct Line {
-    pub bytes: [u8; 72],
-    pub size: usize,
+struct Line {
+    bytes: [u8; 72],
+    size: usize,
 }
 
 fn nothing() -> Line
@@ -61,7 +62,7 @@ fn with_number(line: Line, n: usize) -> Line
 }
 
 // The first line: how many rows were found, or the refusal.
-pub fn head_line(checked: Count) -> Line
+fn head_line(checked: Count) -> Line
     ensures { λ r. ⌜ Holds r (headText (counted checked)) ⌝ }
 {
     match checked {
@@ -79,27 +80,28 @@ pub fn head_line(checked: Count) -> Line
 }
 
 // A row's line: its number, the place of its value, its length and its description.
-pub fn row_line(number: usize, leaf: Leaf) -> Line
+fn row_line(number: usize, leaf: Leaf) -> Line
+    requires { ⌜ leaf .place + 20 < 2 ^ 64 ⌝ }
     ensures { λ r. ⌜ Holds r (leafText number leaf) ⌝ }
 {
-    let label = leaf.label;
-    let d = label.description;
-    let place = std::num::wrapping_add_usize(leaf.place, 20);
+    let l = leaf.label;
+    let d = l.description;
+    let place = leaf.place + label::LABEL;
     let numbered = with_number(nothing(), number);
     let placed = with_number(with(numbered, b" "), place);
-    let sized = with_number(with(placed, b" "), label.length);
+    let sized = with_number(with(placed, b" "), l.length);
     let description = [b' ', d.a, d.b, d.c, d.d, b'\n'];
     with(sized, &description)
 }
 
 // The largest file that is listed, in bytes.
-const MOST: usize = 65536;
+const LARGEST_LISTED: usize = 65536;
 
 // The check of a file that is listed.
 fn check_listed(file: &[u8]) -> Count
     ensures { λ r. ⌜ counted r ≡ counting (rowsListed (now (file .entry))) ⌝ }
 {
-    if MOST < file.len() {
+    if LARGEST_LISTED < file.len() {
         return Count::Refused(Refusal::TooBig, 0);
     }
     sfdu::check(file)
@@ -128,11 +130,11 @@ fn put_rows(file: &[u8], rows: usize, out: &mut [u8], at: usize) -> usize
     let mut from: usize = 0;
     let mut number: usize = 0;
     while number < rows {
-        match sfdu::walk_from(file, from, 0) {
+        match walk::walk_from(file, from, 0) {
             Walked::Is(leaf) => {
                 end = put(row_line(number, leaf), out, end);
-                let label = leaf.label;
-                from = leaf.place + 20 + label.length;
+                let l = leaf.label;
+                from = leaf.place + label::LABEL + l.length;
                 number += 1;
             }
             Walked::Refused(_, _) => {

@@ -4,7 +4,7 @@
 use answer::Refusal;
 use vax::Decode;
 ghost use mathlib.Core.Path.{_≡_};
-ghost use Prim.Native.Nat.{_<_, _≤_};
+ghost use Prim.Native.Nat.{_≤_};
 ghost use lib.ListN.{length};
 ghost use Rattle.orbit.specs.Opening.{opened, orbitNumber, perOrbitOpening};
 
@@ -21,20 +21,13 @@ pub enum Open {
     Refused(Refusal, usize),
 }
 
-// A byte as a number to calculate with.
-fn wide(byte: u8) -> usize
-    ensures { λ r. ⌜ (r ≡ byte) × (r < 256) ⌝ }
-{
-    byte as usize
-}
-
 // Bytes 0-3, unsigned little-endian.
 fn orbit_number(bytes: &[u8]) -> usize
     requires { ⌜ 4 ≤ length (now bytes) ⌝ }
     ensures { λ r. ⌜ r ≡ orbitNumber (now (bytes .entry)) ⌝ }
 {
-    let low = wide(bytes[0]) + 256 * wide(bytes[1]);
-    let high = wide(bytes[2]) + 256 * wide(bytes[3]);
+    let low = answer::wide(bytes[0]) + 256 * answer::wide(bytes[1]);
+    let high = answer::wide(bytes[2]) + 256 * answer::wide(bytes[3]);
     low + 65536 * high
 }
 

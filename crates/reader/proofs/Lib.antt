@@ -1,3 +1,5 @@
 pub mod Found
+pub mod Rows
+pub mod Demand2
 pub mod Demand3
 pub mod NextRow

@@ -1,11 +1,12 @@
--- Demand 3: "The jump and reading from the first byte give the same answer, whatever the row and window". For labelled files
--- it supposes that the check and the index check accept; for waveform files it supposes nothing.
-use Prim.Native.Nat.{ℕ, _+_}
+-- Demand 3: "The jump and reading from the first byte give the same answer, whatever the row and window", where "the documents
+-- call for it and nowhere else". For labelled files it supposes that the check and the index check accept; for waveform files
+-- it supposes nothing.
+use Prim.Native.Nat.{ℕ, _+_, _<_}
 use mathlib.Core.Path.{_≡_}
 use mathlib.Core.List.{List}
-use lib.ListN.{length}
-use Rattle.answer.specs.Outcome.{answer}
-use Rattle.answer.specs.Window.{bytesAt}
+use lib.ListN.{length, getD}
+use Rattle.answer.specs.Outcome.{answer, andThen}
+use Rattle.answer.specs.Window.{bytesAt, windowIn}
 use Rattle.answer.specs.declared.Part.{Part}
 use Rattle.row_index.specs.Index.{checkIndex}
 use Rattle.reader.specs.Rows.{rowOf, checkFile}
@@ -19,15 +20,20 @@ Supposed Labelled f xs = (n : ℕ) × (checkFile Labelled f ≡ answer n) × (ch
 Supposed Waveform f xs = Unit
 
 -- the part that is shown is the window (a, c) of row k, as demand 2 gives the rows: it begins a bytes after the row's first
--- byte, and its c bytes are those of the row from a on
+-- byte, has c bytes, and these are those of the row from a on; byte i of it is the file's byte at row's place + a + i
 pub record ShowsWindow (kind : Kind) (f : List ℕ) (k a c : ℕ) (part : Part) : Type 0 where
   pub row : Part
   pub is-row : rowOf kind f k ≡ answer row
   pub place : part .place ≡ row .place + a
+  pub count : part .count ≡ c
   pub bytes : bytesAt f (part .place) (part .count) ≡ bytesAt (bytesAt f (row .place) (row .count)) a c
   pub size : length (bytesAt f (part .place) (part .count)) ≡ c
+  pub behind : (i : ℕ) → i < c → getD (bytesAt f (part .place) (part .count)) i 0 ≡ getD f (row .place + a + i) 0
 
--- the same answer, place and refusal included; and an answer shows that window of that row
 pub record Demand3 (kind : Kind) (f xs : List ℕ) (k a c : ℕ) : Type 0 where
+  -- the same answer, place and refusal included
   pub same : jumpRow kind f xs k a c ≡ readRow kind f k a c
+  -- and it is the window of demand 2's row k: refused where there is no such row or the window does not fit it, and nowhere else
+  pub reads : readRow kind f k a c ≡ andThen (rowOf kind f k) (windowIn a c)
+  -- an answer shows that window of that row
   pub shows : (part : Part) → readRow kind f k a c ≡ answer part → ShowsWindow kind f k a c part

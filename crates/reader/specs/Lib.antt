@@ -1,3 +1,4 @@
 pub mod Rows
 pub mod Read
+pub mod Demand2
 pub mod Demand3

@@ -2,24 +2,19 @@
 -- labelled file are its leaves in file order"; "The rows of a waveform file are its 2,048-byte sample parts").
 use Prim.Native.Nat.{ℕ, zero, suc}
 use mathlib.Core.List.{List, [], _∷_, map}
-use Rattle.answer.specs.Outcome.{Outcome, answer, refuse, andThen}
+use Rattle.answer.specs.Outcome.{Outcome, answer, refuse, andThen, mapped}
 use Rattle.answer.specs.declared.Part.{Part}
+use Rattle.sfdu.specs.Row.{valueOf}
 use Rattle.sfdu.specs.Check.{rowsOfFile, checkLabelled}
-use Rattle.sfdu.specs.Find.{valueOf}
-use Rattle.waveform.specs.Rows.{firstSample, samplesSize}
+use Rattle.waveform.specs.Rows.{sampleParts}
 use Rattle.waveform.specs.Check.{rowCount}
 use Rattle.reader.specs.declared.Kind.{Kind}
 use Rattle.reader.specs.declared.Kind.the-variants.{Labelled, Waveform}
 
--- n waveform rows, from row k on
-abbrev pub sampleParts : ℕ → ℕ → List Part
-sampleParts k zero = []
-sampleParts k (suc n) = record { place = firstSample k; count = samplesSize } ∷ sampleParts (suc k) n
-
 -- the rows, in file order
 unfoldable pub rowParts : Kind → List ℕ → Outcome (List Part)
-rowParts Labelled f = andThen (rowsOfFile f) (λ rows. answer (map valueOf rows))
-rowParts Waveform f = andThen (rowCount f) (λ n. answer (sampleParts 0 n))
+rowParts Labelled f = mapped (map valueOf) (rowsOfFile f)
+rowParts Waveform f = mapped (sampleParts 0) (rowCount f)
 
 -- the row with this number, counted from 0
 abbrev pub nthPart : List Part → ℕ → Outcome Part

@@ -1,6 +1,7 @@
-// The reader: files of both kinds, checked, their rows read from the first byte or jumped to, and the
-// bytes shown as a part of the lent file. Renders document 01's demands 2 and 3 over every kind; how a
-// kind is framed is known to the crates below alone. The caller names the kind and vouches for it.
+// The reader: files of both kinds, checked, their rows read from the first byte, jumped to or gone on
+// to, each answered as a part of the lent file (`answer::bytes_of` lends its bytes). Renders document
+// 01's demands 2 and 3 over every kind; how a kind is framed is known to the crates below alone. The
+// caller names the kind and vouches for it.
 use answer::Count;
 use answer::Part;
 use answer::Refusal;
@@ -9,9 +10,9 @@ ghost use mathlib.Core.Path.{_≡_};
 ghost use Prim.Native.Nat.{_+_, _≤_};
 ghost use Rattle.answer.specs.Outcome.{answer, andThen};
 ghost use Rattle.answer.specs.Counted.{counted};
-ghost use Rattle.answer.specs.Window.{shown, bytesAt};
+ghost use Rattle.answer.specs.Window.{shown, windowIn};
 ghost use Rattle.reader.specs.Rows.{checkFile};
-ghost use Rattle.reader.specs.Read.{windowIn, readRow, jumpRow, rowFrom};
+ghost use Rattle.reader.specs.Read.{findRow, jumpTo, readRow, jumpRow, rowFrom};
 
 // The kinds of file.
 pub enum Kind {
@@ -28,6 +29,26 @@ pub fn check(kind: Kind, file: &[u8]) -> Count
     match kind {
         Kind::Labelled => sfdu::check(file),
         Kind::Waveform => waveform::check(file),
+    }
+}
+
+// Row `k`, whole, found from the first byte.
+fn find_row(kind: Kind, file: &[u8], k: usize) -> Show
+    ensures { λ r. ⌜ shown r ≡ findRow kind (now (file .entry)) k ⌝ }
+{
+    match kind {
+        Kind::Labelled => walk::find_row(file, k),
+        Kind::Waveform => waveform::find_row(file, k),
+    }
+}
+
+// Row `k`, whole, jumped to.
+fn jump_to(kind: Kind, file: &[u8], list: &[u32], k: usize) -> Show
+    ensures { λ r. ⌜ shown r ≡ jumpTo kind (now (file .entry)) (now (list .entry)) k ⌝ }
+{
+    match kind {
+        Kind::Labelled => row_index::jump_to(file, list, k),
+        Kind::Waveform => waveform::jump_to(file, k),
     }
 }
 
@@ -52,50 +73,23 @@ fn window_in(row: Show, a: usize, c: usize) -> Show
 pub fn read_row(kind: Kind, file: &[u8], k: usize, a: usize, c: usize) -> Show
     ensures { λ r. ⌜ shown r ≡ readRow kind (now (file .entry)) k a c ⌝ }
 {
-    match kind {
-        Kind::Labelled => window_in(sfdu::find_row(file, k), a, c),
-        Kind::Waveform => waveform::read_row(file, k, a, c),
-    }
+    window_in(find_row(kind, file, k), a, c)
 }
 
 // The window of row `k`, jumped to by the list. A waveform file needs none.
 pub fn jump_row(kind: Kind, file: &[u8], list: &[u32], k: usize, a: usize, c: usize) -> Show
     ensures { λ r. ⌜ shown r ≡ jumpRow kind (now (file .entry)) (now (list .entry)) k a c ⌝ }
 {
-    match kind {
-        Kind::Labelled => window_in(row_index::jump_to(file, list, k), a, c),
-        Kind::Waveform => waveform::jump_row(file, k, a, c),
-    }
+    window_in(jump_to(kind, file, list, k), a, c)
 }
 
-// The first whole waveform row from a place on, or 6.
-fn waveform_from(file: &[u8], from: usize) -> Show
-    ensures { λ r. ⌜ shown r ≡ rowFrom Kind.Waveform (now (file .entry)) from ⌝ }
-{
-    if file.len() < from {
-        return Show::Refused(Refusal::NoRow, 0);
-    }
-    if file.len() - from < 2080 {
-        return Show::Refused(Refusal::NoRow, 0);
-    }
-    let place = from + 32;
-    Show::Is(Part { place, count: 2048 })
-}
-
-// The first whole row from a place on: from 0, row 0; from the end of one row's bytes, the next row.
-// A strip of n rows is read so in time that grows with the strip and not with the file.
+// Going on: the first whole row from a place on. From 0 it is row 0; from the end of one row's bytes,
+// the next row. A strip of n rows is read so in time that grows with the strip and not with the file.
 pub fn row_from(kind: Kind, file: &[u8], from: usize) -> Show
     ensures { λ r. ⌜ shown r ≡ rowFrom kind (now (file .entry)) from ⌝ }
 {
     match kind {
-        Kind::Labelled => sfdu::value_from(file, from, 0),
-        Kind::Waveform => waveform_from(file, from),
+        Kind::Labelled => walk::value_from(file, from, 0),
+        Kind::Waveform => waveform::row_from(file, from),
     }
-}
-
-// The bytes of a part that was shown, lent again and not copied.
-pub fn bytes_shown(file: &[u8], part: Part) -> &[u8]
-    ensures { λ r. ⌜ now r ≡ bytesAt (now (file .entry)) (part .place) (part .count) ⌝ }
-{
-    answer::bytes_of(file, part)
 }

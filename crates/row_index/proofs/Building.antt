@@ -10,11 +10,12 @@ use lib.Seq.{drop-cons}
 use lib.Dec.{eqb}
 use borrow.Author.Tests.{le-leb, lt-leb, eq-eqb, ne-eqb}
 use Rattle.answer.specs.Outcome.{answer, refuse, need}
-use Rattle.answer.proofs.Outcomes.{first-answered, refused-first, answer-injective}
+use Rattle.answer.proofs.Outcomes.{refused-first, mapped-answer}
 use Rattle.answer.proofs.Writers.{one-more-written}
 use Rattle.sfdu.specs.Row.{Row}
 use Rattle.sfdu.specs.Check.{rowsOfFile, checkLabelled}
-use Rattle.row_index.specs.Index.{indexOf, theIndex, buildIndex, builtIndex, same, checkIndex}
+use Rattle.row_index.specs.Index.{indexOf, buildIndex, same, checkIndex}
+use Rattle.row_index.specs.Private.{theIndex}
 use Rattle.row_index.proofs.Sixteenths.{one-entry-a-group}
 use Rattle.row_index.proofs.Entries.{AtEntry, Entry, first-entry, index-of-accepted}
 
@@ -92,7 +93,7 @@ lengths-differ (x ∷ xs) (y ∷ ys) d = ap (λ (t : Bool). eqb x y && t) (lengt
 module _ (f : List ℕ) (n : ℕ) (checked : checkLabelled f ≡ answer n) where
   pub rows-counted : (rows : List Row) × (rowsOfFile f ≡ answer rows) × (length rows ≡ n)
   unfolding checkLabelled
-  rows-counted = let q = first-answered (rowsOfFile f) (λ rows. answer (length rows)) n checked in (q .0, q .1, answer-injective (q .2))
+  rows-counted = mapped-answer length (rowsOfFile f) n checked
 
   pub entries-counted : length (theIndex f) ≡ (n + 15) / 16
   entries-counted =
@@ -100,22 +101,19 @@ module _ (f : List ℕ) (n : ℕ) (checked : checkLabelled f ≡ answer n) where
       ap length (index-of-accepted f rows accepted) ∙ one-entry-a-group rows ∙ ap (λ (k : ℕ). (k + 15) / 16) many
 
   module _ (room : ℕ) where
-    pub no-room-to-build : room < (n + 15) / 16 → (builtIndex f room ≡ refuse 8 0) × (buildIndex f room ≡ refuse 8 0)
-    unfolding builtIndex buildIndex
+    pub no-room-to-build : room < (n + 15) / 16 → buildIndex f room ≡ refuse 8 0
+    unfolding buildIndex
     no-room-to-build h =
         let (rows, accepted, many) = rows-counted in
         let k = one-entry-a-group rows ∙ ap (λ (k : ℕ). (k + 15) / 16) many in
-        (rw (accepted, lt-leb (length (indexOf rows)) room (omega (arith, k))), rw (accepted, lt-leb (length (indexOf rows)) room (omega (arith, k))))
+        rw (accepted, lt-leb (length (indexOf rows)) room (omega (arith, k)))
 
-    pub index-is-built : (n + 15) / 16 ≤ room
-        → (builtIndex f room ≡ answer (record { entries = (n + 15) / 16; rows = n })) × (buildIndex f room ≡ answer (theIndex f))
-    unfolding builtIndex buildIndex
+    pub index-is-built : (n + 15) / 16 ≤ room → (rows : List Row) × (buildIndex f room ≡ answer rows) × (indexOf rows ≡ theIndex f) × (length rows ≡ n)
+    unfolding buildIndex
     index-is-built h =
         let (rows, accepted, many) = rows-counted in
-        let k : length (indexOf rows) ≡ (n + 15) / 16 = one-entry-a-group rows ∙ ap (λ (k : ℕ). (k + 15) / 16) many in (
-          rw (accepted, le-leb (length (indexOf rows)) room (omega (arith, k)), k, many),
-          rw (accepted, le-leb (length (indexOf rows)) room (omega (arith, k))) (ap answer (sym (index-of-accepted f rows accepted))),
-        )
+        let k : length (indexOf rows) ≡ (n + 15) / 16 = one-entry-a-group rows ∙ ap (λ (k : ℕ). (k + 15) / 16) many in
+        (rows, rw (accepted, le-leb (length (indexOf rows)) room (omega (arith, k))), sym (index-of-accepted f rows accepted), many)
 
   pub index-is-checked : (xs : List ℕ) → checkIndex f xs ≡ need (same xs (theIndex f)) 11 (answer tt)
   unfolding checkIndex
@@ -128,9 +126,9 @@ module _ (f : List ℕ) (n p : ℕ) (refused : checkLabelled f ≡ refuse n p) w
   unfolding checkLabelled
   no-rows = refused-first (rowsOfFile f) length refused
 
-  pub not-built : (room : ℕ) → (builtIndex f room ≡ refuse n p) × (buildIndex f room ≡ refuse n p)
-  unfolding builtIndex buildIndex
-  not-built room = (rw no-rows, rw no-rows)
+  pub not-built : (room : ℕ) → buildIndex f room ≡ refuse n p
+  unfolding buildIndex
+  not-built room = rw no-rows
 
   pub not-checked : (xs : List ℕ) → checkIndex f xs ≡ refuse n p
   unfolding checkIndex

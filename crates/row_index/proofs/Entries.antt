@@ -10,15 +10,16 @@ use Rattle.answer.specs.Outcome.{Outcome, answer, refuse, andThen}
 use Rattle.answer.specs.declared.Part.{Part}
 use Rattle.answer.proofs.Outcomes.{first-answered, answer-injective}
 use Rattle.sfdu.specs.Row.{Row}
-use Rattle.sfdu.specs.declared.Leaf.{Leaf}
+use Rattle.walk.specs.declared.Leaf.{Leaf}
 use Rattle.sfdu.specs.Check.{rowsOfFile}
-use Rattle.sfdu.specs.Walk.{walkFrom}
-use Rattle.sfdu.specs.Find.{nthRow, valueAtLeaf}
+use Rattle.walk.specs.Walk.{walkFrom}
+use Rattle.walk.specs.Find.{nthRow, valueAtLeaf}
 use Rattle.sfdu.proofs.Checking.{accepted-says}
-use Rattle.sfdu.proofs.WalkLoop.{place-inside}
-use Rattle.sfdu.proofs.WalkReads.{walkAt, walk-reads-rows, resume, found-ends-inside}
-use Rattle.row_index.specs.Index.{indexOf, known, theIndex}
-use Rattle.row_index.specs.Jump.{placeFound}
+use Rattle.walk.proofs.Finding.{walked-value-fits}
+use Rattle.walk.proofs.WalkLoop.{place-inside}
+use Rattle.walk.proofs.WalkReads.{walkAt, walk-reads-rows, resume, found-ends-inside}
+use Rattle.row_index.specs.Index.{indexOf}
+use Rattle.row_index.specs.Private.{known, theIndex, placeFound}
 use Rattle.row_index.proofs.Sixteenths.{row-is-there, entry-is-a-row, one-entry-a-group}
 
 -- an index with an entry is that of an accepted file
@@ -46,6 +47,14 @@ module _ (f : List ℕ) (rows : List Row) (accepted : rowsOfFile f ≡ answer ro
       entry-is-a-row rows 0 i p (ap (nthRow rows) {x = 0 + 16 * i} {y = 16 * i} (omega arith) ∙ row) in
       (x, walks, omega (arith, place, entry))
 
+-- the place that a walk came to lies in the file
+pub place-found-inside : (f : List ℕ) (from k : ℕ) → placeFound (walkFrom f from k) ≤ length f
+place-found-inside f from k = cases (walkFrom f from k) refl
+  where
+    cases : (o : Outcome Leaf) → walkFrom f from k ≡ o → placeFound o ≤ length f
+    cases (answer x) e = omega (arith, walked-value-fits f from k x e)
+    cases (refuse n p) e = zero-le
+
 -- so many entries are passed, and a walk from here comes to the next
 pub record AtEntry (f : List ℕ) (i from leaves : ℕ) : Type 0 where
   pub within : from ≤ length f
@@ -57,7 +66,6 @@ first-entry f = record { within = zero-le; next = ap (walkAt f 0) {x = 16 * 0} {
 -- what the walk finds is the entry, and the next one is sixteen leaves from it
 pub record Entry (f : List ℕ) (i place : ℕ) : Type 0 where
   pub is : place ≡ getD (theIndex f) i 0
-  pub inside : place ≤ length f
   pub on : AtEntry f (i + 1) place 16
 
 pub entry-found : (f : List ℕ) (i from leaves : ℕ) → AtEntry f i from leaves → i < length (theIndex f)
@@ -66,7 +74,7 @@ entry-found f i from leaves at h =
     let (rows, accepted, index) = whose-index f i h in
     let (x, walks, place) = leaf-of-entry f rows accepted i (subst (λ (xs : List ℕ). i < length xs) index h) in
     let found : placeFound (walkFrom f from leaves) ≡ x .place =
-    ap placeFound (place-inside f from leaves (at .within) ∙ sym (at .next) ∙ walks) in
+    ap placeFound (place-inside f from leaves (accepted-says f rows accepted .0) (at .within) ∙ sym (at .next) ∙ walks) in
     let inside : x .place ≤ length f = omega (arith, found-ends-inside f 0 (16 * i) x walks) in
     let on : AtEntry f (i + 1) (x .place) 16 = record {
       within = inside;
@@ -76,6 +84,5 @@ entry-found f i from leaves at h =
     } in
     subst (Entry f i) (sym found) (record {
       is = place ∙ ap (λ (xs : List ℕ). getD xs i 0) (sym index);
-      inside = inside;
       on = on;
     })

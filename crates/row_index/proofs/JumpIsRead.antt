@@ -9,15 +9,16 @@ use mathlib.Core.List.{List}
 use lib.ListN.{length, getD}
 use borrow.Author.Tests.{le-leb, lt-leb, lt-ltb, le-ltb}
 use Rattle.answer.specs.Outcome.{Outcome, answer, refuse, andThen}
+use Rattle.answer.specs.Size.{largestFile}
 use Rattle.sfdu.specs.Row.{Row}
-use Rattle.sfdu.specs.declared.Leaf.{Leaf}
+use Rattle.walk.specs.declared.Leaf.{Leaf}
 use Rattle.sfdu.specs.Check.{rowsOfFile}
-use Rattle.sfdu.specs.Walk.{walkFrom}
-use Rattle.sfdu.specs.Find.{nthRow, findRow, valueAtLeaf}
+use Rattle.walk.specs.Walk.{walkFrom}
+use Rattle.walk.specs.Find.{nthRow, findRow, valueAtLeaf}
 use Rattle.sfdu.proofs.Checking.{accepted-says}
-use Rattle.sfdu.proofs.Finding.{reads-the-row}
-use Rattle.sfdu.proofs.WalkLoop.{place-inside}
-use Rattle.sfdu.proofs.WalkReads.{walkAt, walk-reads-rows, resume, found-ends-inside}
+use Rattle.walk.proofs.Finding.{reads-the-row}
+use Rattle.walk.proofs.WalkLoop.{place-inside}
+use Rattle.walk.proofs.WalkReads.{walkAt, walk-reads-rows, resume, found-ends-inside}
 use Rattle.row_index.specs.Index.{indexOf}
 use Rattle.row_index.specs.Jump.{jumpTo}
 use Rattle.row_index.proofs.Sixteenths.{no-such-row, one-entry-a-group}
@@ -26,18 +27,23 @@ use Rattle.row_index.proofs.Entries.{leaf-of-entry}
 -- ---- the jump case by case
 
 module _ (f xs : List ℕ) (k : ℕ) where
-  pub too-big-to-jump : 4294967295 < length f → jumpTo f xs k ≡ refuse 14 0
+  pub too-big-to-jump : largestFile < length f → jumpTo f xs k ≡ refuse 14 0
   unfolding jumpTo
-  too-big-to-jump h = rw (lt-leb (length f) 4294967295 h)
+  too-big-to-jump h = rw (lt-leb (length f) largestFile h)
 
-  module _ (small : length f ≤ 4294967295) where
+  module _ (small : length f ≤ largestFile) where
     pub no-entry : length xs ≤ k / 16 → jumpTo f xs k ≡ refuse 6 0
     unfolding jumpTo
-    no-entry h = rw (le-leb (length f) 4294967295 small, le-ltb (k / 16) (length xs) h)
+    no-entry h = rw (le-leb (length f) largestFile small, le-ltb (k / 16) (length xs) h)
 
-    pub jumps-from-entry : k / 16 < length xs → jumpTo f xs k ≡ andThen (walkFrom f (getD xs (k / 16) 0) (k % 16)) valueAtLeaf
-    unfolding jumpTo
-    jumps-from-entry h = rw (le-leb (length f) 4294967295 small, lt-ltb (k / 16) (length xs) h)
+    module _ (there : k / 16 < length xs) where
+      pub entry-beyond : length f < getD xs (k / 16) 0 → jumpTo f xs k ≡ refuse 11 0
+      unfolding jumpTo
+      entry-beyond h = rw (le-leb (length f) largestFile small, lt-ltb (k / 16) (length xs) there, lt-leb (getD xs (k / 16) 0) (length f) h)
+
+      pub jumps-from-entry : getD xs (k / 16) 0 ≤ length f → jumpTo f xs k ≡ andThen (walkFrom f (getD xs (k / 16) 0) (k % 16)) valueAtLeaf
+      unfolding jumpTo
+      jumps-from-entry h = rw (le-leb (length f) largestFile small, lt-ltb (k / 16) (length xs) there, le-leb (getD xs (k / 16) 0) (length f) h)
 
 -- ---- the theorem
 
@@ -53,9 +59,10 @@ module _ (f : List ℕ) (rows : List Row) (accepted : rowsOfFile f ≡ answer ro
   from-the-entry h =
       let (x, walks, place) = leaf-of-entry f rows accepted (k / 16) h in
       let inside : x .place ≤ length f = omega (arith, found-ends-inside f 0 (16 * (k / 16)) x walks) in
-      jumps-from-entry f (indexOf rows) k (accepted-says f rows accepted .0) h
+      let small = accepted-says f rows accepted .0 in
+      jumps-from-entry f (indexOf rows) k small h (omega (arith, inside, place))
       ∙ ap (λ (o : Outcome Leaf). andThen o valueAtLeaf)
-      (ap (λ (p : ℕ). walkFrom f p (k % 16)) (sym place) ∙ place-inside f (x .place) (k % 16) inside
+      (ap (λ (p : ℕ). walkFrom f p (k % 16)) (sym place) ∙ place-inside f (x .place) (k % 16) small inside
       ∙ sym (ap (λ (o : Outcome Leaf). andThen o (λ y. walkAt f (y .place) (k % 16))) walks)
       ∙ sym (resume f 0 (16 * (k / 16)) (k % 16))
       ∙ ap (walkAt f 0) {x = 16 * (k / 16) + k % 16} {y = k} (omega arith))

@@ -8,8 +8,8 @@ use lib.ListN.{length, getD}
 use Rattle.answer.specs.Outcome.{answer, refuse}
 use Rattle.answer.specs.declared.Part.{Part}
 use Rattle.answer.proofs.Outcomes.{answer-injective, answer-is-no-refusal}
-use Rattle.sfdu.specs.Row.{Row}
-use Rattle.sfdu.specs.Find.{valueOf, nthRow}
+use Rattle.sfdu.specs.Row.{Row, valueOf}
+use Rattle.walk.specs.Find.{nthRow}
 use Rattle.row_index.specs.Index.{every}
 
 -- a row with a number below their count is there, and else there is none

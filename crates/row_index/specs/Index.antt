@@ -15,6 +15,10 @@ use Rattle.row_index.specs.declared.Build.the-variants as build
 use Rattle.row_index.specs.declared.Verified.{Verified}
 use Rattle.row_index.specs.declared.Verified.the-variants as verified
 
+-- how many rows an entry stands for
+abbrev pub groupSize : ℕ
+groupSize = 16
+
 -- the place of the label of every sixteenth row, after so many rows that are passed
 abbrev pub every : ℕ → List Row → List ℕ
 every n [] = []
@@ -25,23 +29,13 @@ every (suc n) (r ∷ rs) = every n rs
 abbrev pub indexOf : List Row → List ℕ
 indexOf rows = every 0 rows
 
--- the index of a file: of one that is refused, none
-abbrev pub known : Outcome (List Row) → List ℕ
-known (answer rows) = indexOf rows
-known (refuse n p) = []
+-- the rows whose index is written into a list with room for so many entries: 14, faults, 8
+unfoldable pub buildIndex : List ℕ → ℕ → Outcome (List Row)
+buildIndex f room = andThen (rowsOfFile f) (λ rows. need (leb (length (indexOf rows)) room) 8 (answer rows))
 
-unfoldable pub theIndex : List ℕ → List ℕ
-theIndex f = known (rowsOfFile f)
-
--- what the builder writes into a list with room for so many entries
-unfoldable pub buildIndex : List ℕ → ℕ → Outcome (List ℕ)
-buildIndex f room = andThen (rowsOfFile f) (λ rows. need (leb (length (indexOf rows)) room) 8 (answer (indexOf rows)))
-
--- what it answers: how many entries, and how many rows the file has
-unfoldable pub builtIndex : List ℕ → ℕ → Outcome Built
-builtIndex f room =
-    andThen (rowsOfFile f)
-    (λ rows. need (leb (length (indexOf rows)) room) 8 (answer (record { entries = length (indexOf rows); rows = length rows })))
+-- what the builder answers of these rows: how many entries, and how many rows
+abbrev pub builtOf : List Row → Built
+builtOf rows = record { entries = length (indexOf rows); rows = length rows }
 
 -- two lists are the same, entry for entry
 abbrev pub same : List ℕ → List ℕ → Bool

@@ -3,25 +3,22 @@
 use Prim.Native.Nat.{ℕ, _/_, _%_}
 use mathlib.Core.List.{List}
 use lib.ListN.{length, getD}
-use lib.Dec.{ltb}
-use Rattle.answer.specs.Outcome.{Outcome, answer, refuse, need, andThen}
+use lib.Dec.{ltb, leb}
+use Rattle.answer.specs.Outcome.{Outcome, answer, need, andThen}
 use Rattle.answer.specs.Size.{ofFile}
 use Rattle.answer.specs.declared.Part.{Part}
-use Rattle.sfdu.specs.declared.Leaf.{Leaf}
-use Rattle.sfdu.specs.Walk.{walkFrom}
-use Rattle.sfdu.specs.Find.{valueAtLeaf}
+use Rattle.walk.specs.Walk.{walkFrom}
+use Rattle.walk.specs.Find.{valueAtLeaf}
+use Rattle.row_index.specs.Index.{groupSize}
 
--- the entry of row k's group of sixteen
-abbrev pub entryFor : List ℕ → ℕ → Outcome ℕ
-entryFor xs k = need (ltb (k / 16) (length xs)) 6 (answer (getD xs (k / 16) 0))
-
--- the place of the label that a walk came to
-abbrev pub placeFound : Outcome Leaf → ℕ
-placeFound (answer x) = x .place
-placeFound (refuse n p) = 0
+-- the entry of row k's group of sixteen: 6 where it is missing, 11 where it is beyond the file's length
+abbrev pub entryFor : List ℕ → List ℕ → ℕ → Outcome ℕ
+entryFor f xs k =
+    need (ltb (k / groupSize) (length xs)) 6
+    (need (leb (getD xs (k / groupSize) 0) (length f)) 11 (answer (getD xs (k / groupSize) 0)))
 
 -- the row's value
 unfoldable pub jumpTo : List ℕ → List ℕ → ℕ → Outcome Part
 jumpTo f xs k =
     ofFile f
-    (andThen (entryFor xs k) (λ entry. andThen (walkFrom f entry (k % 16)) valueAtLeaf))
+    (andThen (entryFor f xs k) (λ entry. andThen (walkFrom f entry (k % groupSize)) valueAtLeaf))

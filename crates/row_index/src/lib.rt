@@ -4,19 +4,22 @@
 use answer::Count;
 use answer::Refusal;
 use answer::Show;
-use sfdu::Walked;
+use walk::Walked;
 ghost use mathlib.Core.Path.{_≡_};
 ghost use Prim.Native.Nat.{_+_, _/_, _≤_};
 ghost use mathlib.Core.List.{_++_};
 ghost use lib.ListN.{length, take, drop};
+ghost use Rattle.answer.specs.Outcome.{mapped};
+ghost use Rattle.answer.specs.Size.{largestFile};
 ghost use Rattle.answer.specs.Filled.{filled};
 ghost use Rattle.answer.specs.Window.{shown};
-ghost use Rattle.row_index.specs.Index.{built, buildIndex, builtIndex, theIndex, same, accepted, checkIndex};
-ghost use Rattle.sfdu.specs.Walk.{walkFrom};
-ghost use Rattle.row_index.specs.Jump.{jumpTo, placeFound};
+ghost use Rattle.walk.specs.Walk.{walkFrom};
+ghost use Rattle.row_index.specs.Index.{built, indexOf, builtOf, buildIndex, same, accepted, checkIndex};
+ghost use Rattle.row_index.specs.Jump.{jumpTo};
+ghost use Rattle.row_index.specs.Private.{placeFound, theIndex};
 
-// The largest file that is taken, in bytes.
-const MOST: usize = 4294967295;
+// How many rows an entry stands for.
+const GROUP: usize = 16;
 
 // What the builder wrote: so many entries, for a file with so many rows.
 pub struct Built {
@@ -40,22 +43,25 @@ pub enum Verified {
 pub fn jump_to(file: &[u8], list: &[u32], k: usize) -> Show
     ensures { λ r. ⌜ shown r ≡ jumpTo (now (file .entry)) (now (list .entry)) k ⌝ }
 {
-    if MOST < file.len() {
+    if answer::LARGEST_FILE < file.len() {
         return Show::Refused(Refusal::TooBig, 0);
     }
-    let group = k / 16;
+    let group = k / GROUP;
     if list.len() <= group {
         return Show::Refused(Refusal::NoRow, 0);
     }
     let entry = list[group] as usize;
-    sfdu::value_from(file, entry, k % 16)
+    if file.len() < entry {
+        return Show::Refused(Refusal::BadIndex, 0);
+    }
+    walk::value_from(file, entry, k % GROUP)
 }
 
-// The place of the label that a walk comes to.
+// The place of the label that a walk comes to; 0 where it comes to none.
 fn entry_from(file: &[u8], from: usize, leaves: usize) -> usize
-    ensures { λ r. ⌜ r ≡ placeFound (walkFrom (now (file .entry)) from leaves) ⌝ }
+    ensures { λ r. ⌜ (r ≡ placeFound (walkFrom (now (file .entry)) from leaves)) × (r ≤ length (now (file .entry))) ⌝ }
 {
-    match sfdu::walk_from(file, from, leaves) {
+    match walk::walk_from(file, from, leaves) {
         Walked::Is(leaf) => leaf.place,
         Walked::Refused(_, _) => 0,
     }
@@ -64,7 +70,7 @@ fn entry_from(file: &[u8], from: usize, leaves: usize) -> usize
 // Writes the first entries of the file's index: each is found by a walk of sixteen leaves from the
 // one before it.
 fn write_entries(file: &[u8], entries: usize, list: &mut [u32])
-    requires { ⌜ (length (now file) ≤ 4294967295) × (entries ≤ length (theIndex (now file))) × (entries ≤ length (now list)) ⌝ }
+    requires { ⌜ (length (now file) ≤ largestFile) × (entries ≤ length (theIndex (now file))) × (entries ≤ length (now list)) ⌝ }
     ensures { λ _. ⌜ now (list .exit) ≡ take entries (theIndex (now (file .entry))) ++ drop entries (now (list .entry)) ⌝ }
 {
     let mut i: usize = 0;
@@ -74,7 +80,7 @@ fn write_entries(file: &[u8], entries: usize, list: &mut [u32])
         let place = entry_from(file, from, leaves);
         list[i] = place as u32;
         from = place;
-        leaves = 16;
+        leaves = GROUP;
         i += 1;
     }
 }
@@ -93,7 +99,7 @@ fn entries_agree(file: &[u8], list: &[u32]) -> bool
             return false;
         }
         from = place;
-        leaves = 16;
+        leaves = GROUP;
         i += 1;
     }
     true
@@ -103,13 +109,18 @@ fn entries_agree(file: &[u8], list: &[u32]) -> bool
 fn groups(rows: usize) -> usize
     ensures { λ r. ⌜ r ≡ (rows + 15) / 16 ⌝ }
 {
-    rows / 16 + (rows % 16 + 15) / 16
+    let whole = rows / GROUP;
+    if rows % GROUP == 0 {
+        return whole;
+    }
+    whole + 1
 }
 
 // Builds the index: writes its entries to the front of the list, and leaves the rest as it is.
 pub fn build_index(file: &[u8], list: &mut [u32]) -> Build
-    ensures answers { λ r. ⌜ built r ≡ builtIndex (now (file .entry)) (length (now (list .entry))) ⌝ }
-    ensures leaves { λ _. ⌜ now (list .exit) ≡ filled (buildIndex (now (file .entry)) (length (now (list .entry)))) (now (list .entry)) ⌝ }
+    ensures answers { λ r. ⌜ built r ≡ mapped builtOf (buildIndex (now (file .entry)) (length (now (list .entry)))) ⌝ }
+    ensures leaves { λ _. ⌜ now (list .exit) ≡ filled (mapped indexOf (buildIndex (now (file .entry)) (length (now (list .entry)))))
+        (now (list .entry)) ⌝ }
 {
     match sfdu::check(file) {
         Count::Refused(why, place) => Build::Refused(why, place),

@@ -6,30 +6,32 @@ use lib.ListN.{length}
 use borrow.Author.Tests.{le-leb, lt-leb, leb-true}
 use lib.Dec.{leb}
 use Rattle.answer.specs.Outcome.{Outcome, answer, refuse}
+use Rattle.answer.specs.Size.{largestFile}
 use Rattle.answer.proofs.Outcomes.{passed}
 use Rattle.sfdu.specs.Row.{Row}
 use Rattle.sfdu.specs.Scan.{scan}
-use Rattle.sfdu.specs.Check.{counting, rowsOfFile, checkLabelled, Checked}
+use Rattle.sfdu.specs.Check.{counting, rowsOfFile, checkLabelled}
+use Rattle.sfdu.specs.Private.{Checked}
 
-pub too-big : (f : List ℕ) → 4294967295 < length f → rowsOfFile f ≡ refuse 14 0
+pub too-big : (f : List ℕ) → largestFile < length f → rowsOfFile f ≡ refuse 14 0
 unfolding rowsOfFile
-too-big f h = rw (lt-leb (length f) 4294967295 h)
+too-big f h = rw (lt-leb (length f) largestFile h)
 
-pub not-too-big : (f : List ℕ) → length f ≤ 4294967295 → rowsOfFile f ≡ scan f
+pub not-too-big : (f : List ℕ) → length f ≤ largestFile → rowsOfFile f ≡ scan f
 unfolding rowsOfFile
-not-too-big f h = rw (le-leb (length f) 4294967295 h)
+not-too-big f h = rw (le-leb (length f) largestFile h)
 
-pub too-big-to-check : (f : List ℕ) → 4294967295 < length f → checkLabelled f ≡ refuse 14 0
+pub too-big-to-check : (f : List ℕ) → largestFile < length f → checkLabelled f ≡ refuse 14 0
 unfolding checkLabelled
 too-big-to-check f h = ap counting (too-big f h)
 
 -- the nested check of the whole file is the check
-pub whole-file : (f : List ℕ) (r : Outcome ℕ) → length f ≤ 4294967295 → Checked f 0 8 r → r ≡ checkLabelled f
+pub whole-file : (f : List ℕ) (r : Outcome ℕ) → length f ≤ largestFile → Checked f 0 8 r → r ≡ checkLabelled f
 unfolding checkLabelled scan
 whole-file f r h checked = checked .counts 1 (λ at. at) ∙ ap counting (sym (not-too-big f h))
 
 -- an accepted file is small enough, and its rows are the scan's
-pub accepted-says : (f : List ℕ) (rows : List Row) → rowsOfFile f ≡ answer rows → (length f ≤ 4294967295) × (scan f ≡ answer rows)
+pub accepted-says : (f : List ℕ) (rows : List Row) → rowsOfFile f ≡ answer rows → (length f ≤ largestFile) × (scan f ≡ answer rows)
 unfolding rowsOfFile
 accepted-says f rows e =
-    let (small, is) = passed 0 (leb (length f) 4294967295) 14 (scan f) rows e in (leb-true _ _ small, is)
+    let (small, is) = passed 0 (leb (length f) largestFile) 14 (scan f) rows e in (leb-true _ _ small, is)

@@ -1,16 +1,17 @@
--- Demand 2's "exactly", for labelled files: what the check promises, told by the grammar. These are the theorems that
--- answer the auditor's second question; the work is in `Forests`.
+-- Demand 2's "exactly", for labelled files, told by the grammar; the work is in `Forests`. The statement over every kind of
+-- file is the reader's `demand-2`.
 use Prim.Native.Nat.{ℕ, _≤_}
 use mathlib.Core.Path.{_≡_, _∙_, sym, ap}
 use mathlib.Core.Logic.{_↔_}
 use mathlib.Core.List.{List}
 use lib.ListN.{length}
 use Rattle.answer.specs.Outcome.{answer}
-use Rattle.answer.proofs.Outcomes.{first-answered, answer-injective}
+use Rattle.answer.specs.Size.{largestFile}
 use Rattle.sfdu.specs.Row.{Row}
 use Rattle.sfdu.specs.Scan.{scan}
-use Rattle.sfdu.specs.Forest.{Forest, encode, Valid, leaves, forestOf}
-use Rattle.sfdu.specs.Check.{counting, rowsOfFile, checkLabelled}
+use Rattle.sfdu.specs.Forest.{Forest, encode, Valid, leaves}
+use Rattle.sfdu.specs.Check.{rowsOfFile}
+use Rattle.sfdu.proofs.ForestOf.{forestOf}
 use Rattle.sfdu.proofs.Checking.{accepted-says, not-too-big}
 use Rattle.sfdu.proofs.Forests.{valid-is-accepted-from, accepted-divides-from, forest-again}
 
@@ -49,15 +50,10 @@ exact f rows = ((λ e. (forestOfFile f, accepted-divides f rows e)), (λ d. divi
 pub only-one-forest : (F G : Forest) → Valid 8 F → Valid 8 G → encode F ≡ encode G → F ≡ G
 only-one-forest F G v w e = sym (forest-again 8 F v) ∙ ap (forestOf 8) e ∙ forest-again 8 G w
 
--- the check's answer: a count exactly when a file that is not too big divides into that many rows
-pub check-is-exact : (f : List ℕ) (n : ℕ)
-    → (checkLabelled f ≡ answer n)
-    ↔ ((F : Forest) × (rows : List Row) × (length f ≤ 4294967295) × DividesFile f rows F × (length rows ≡ n))
-unfolding checkLabelled
-check-is-exact f n = (
-  (λ e.
-      let (rows, is, many) = first-answered (rowsOfFile f) (λ rs. answer (length rs)) n e in
-      let (small, found) = accepted-says f rows is in
-      (forestOfFile f, rows, small, accepted-divides f rows found, answer-injective many)),
-  (λ d. ap counting (not-too-big f (d .2) ∙ dividing-is-accepted f (d .1) (d .0) (d .3)) ∙ ap answer (d .4)),
+-- the rows of a file that is not too big: exactly those of a forest that divides it
+pub accepted-exactly : (f : List ℕ) (rows : List Row)
+    → (rowsOfFile f ≡ answer rows) ↔ ((length f ≤ largestFile) × ((F : Forest) × DividesFile f rows F))
+accepted-exactly f rows = (
+  (λ e. let (small, found) = accepted-says f rows e in (small, exact f rows .0 found)),
+  (λ d. not-too-big f (d .0) ∙ exact f rows .1 (d .1)),
 )

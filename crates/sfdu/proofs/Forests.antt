@@ -17,7 +17,8 @@ use Rattle.label.specs.Opened.{isOpened}
 use Rattle.label.proofs.Reading.{read-depends-on-20-bytes}
 use Rattle.sfdu.specs.Row.{Row}
 use Rattle.sfdu.specs.Scan.{Inside, object, onLabel, rowsOf, level, objects, scan}
-use Rattle.sfdu.specs.Forest.{Forest, done, leaf, group, encode, IsLabel, Valid, leaves, node, trees, forestOf}
+use Rattle.sfdu.specs.Forest.{Forest, done, leaf, group, encode, IsLabel, Valid, leaves}
+use Rattle.sfdu.proofs.ForestOf.{node, trees, forestOf}
 use Rattle.sfdu.proofs.Steps.{at-the-end, one-more, one-object, Taken, taken, takes}
 
 -- ---- a label and its value at the front of some bytes

@@ -1,9 +1,7 @@
 pub mod Steps
-pub mod Walking
-pub mod WalkLoop
+pub mod ForestOf
+pub mod Forests
 pub mod Nested
 pub mod Checking
-pub mod Forests
 pub mod Exact
-pub mod WalkReads
-pub mod Finding
+pub mod Values

@@ -9,14 +9,13 @@ use mathlib.Core.List.{List, [], _∷_, _++_}
 use lib.ListN.{length, take, drop, length-append, length-drop, length-take, drop-of-length-le}
 use lib.Seq.{drop-drop, length-take-le}
 use Rattle.answer.specs.Outcome.{Outcome, answer, refuse, andThen}
-use Rattle.answer.proofs.Outcomes.{first-answered, answer-injective, answer-is-no-refusal, refused-first}
-use Rattle.answer.proofs.Parts.{from-to, all-that-is-left}
+use Rattle.answer.proofs.Outcomes.{answer-injective, answer-is-no-refusal, refused-first, mapped-answer}
 use Rattle.label.specs.declared.Label.{Label}
-use Rattle.label.specs.Opened.{isOpened}
 use Rattle.sfdu.specs.Row.{Row}
 use Rattle.sfdu.specs.Scan.{Inside, object, rowsOf, level, objects}
-use Rattle.sfdu.specs.Check.{counting, Checked}
-use Rattle.sfdu.proofs.Steps.{at-the-end, bad-object, one-object, taken}
+use Rattle.sfdu.specs.Check.{counting}
+use Rattle.sfdu.specs.Private.{ObjectAt, Checked}
+use Rattle.sfdu.proofs.Steps.{at-the-end, bad-object, one-object}
 
 -- how the values of opened objects at this depth are scanned
 abbrev pub inner : ℕ → ℕ → Inside
@@ -102,94 +101,88 @@ module _ (part : List ℕ) (base left : ℕ) where
         few = λ k z. absurd (answer-is-no-refusal (sym z));
       }
 
-      module _ (l : Label) (e : object (drop at part) ≡ answer l) where
-        -- the object ends inside the part
-        pub ends-inside : at + 20 + l .length ≤ length part
-        ends-inside = omega (arith, length-drop at part, taken (drop at part) l e .long, taken (drop at part) l e .fits)
-
-        value-is : take (l .length) (drop 20 (drop at part)) ≡ take (at + 20 + l .length - (at + 20)) (drop (at + 20) part)
-        value-is = ap (take (l .length)) (drop-drop 20 at part) ∙ sym (from-to part (at + 20) (l .length))
+      module _ (opened : Bool) (end : ℕ) (o : ObjectAt part at opened end) where
+        l : Label
+        l = o .label
 
         -- the value as the code cuts it
         abbrev value : List ℕ
-        value = take (at + 20 + l .length - (at + 20)) (drop (at + 20) part)
+        value = take (end - (at + 20)) (drop (at + 20) part)
+
+        value-is : take (l .length) (drop 20 (drop at part)) ≡ value
+        unfolding l
+        value-is = ap₂ take size (drop-drop 20 at part)
+          where
+            size : o .label .length ≡ end - (at + 20)
+            size = omega (arith, o .ends)
+
+        pub value-size : length value ≡ end - (at + 20)
+        value-size = length-take-le (end - (at + 20)) (drop (at + 20) part) (omega (arith, o .inside, length-drop (at + 20) part))
 
         -- what follows the object, once its rows are known
         abbrev after : ℕ → (ℕ → ℕ) → List Row → List Row → Outcome (List Row)
-        after depth outermost found rs =
-            level (inner (left - 1) depth) depth outermost (base + (at + 20 + l .length)) (found ++ rs) 0 (drop (at + 20 + l .length) part)
+        after depth outermost found rs = level (inner (left - 1) depth) depth outermost (base + end) (found ++ rs) 0 (drop end part)
 
         goes-on : (depth : ℕ) (outermost : ℕ → ℕ) (found : List Row)
             → level (inner (left - 1) depth) depth outermost (base + at) found 0 (drop at part)
-            ≡ andThen (rowsOf (inner (left - 1) depth) depth (outermost (base + at)) (base + at) (isOpened (l .class)) (l .length) value)
+            ≡ andThen (rowsOf (inner (left - 1) depth) depth (outermost (base + at)) (base + at) opened (l .length) value)
             (after depth outermost found)
+        unfolding l
         goes-on depth outermost found =
-            one-object (inner (left - 1) depth) depth outermost (base + at) found (drop at part) left-over l e
+            one-object (inner (left - 1) depth) depth outermost (base + at) found (drop at part) left-over (o .label) (o .is)
+            ∙ ap (λ (t : Bool). andThen
+            (rowsOf (inner (left - 1) depth) depth (outermost (base + at)) (base + at) t (o .label .length) (take (o .label .length) (drop 20 (drop at part))))
+            (λ rs. level (inner (left - 1) depth) depth outermost (base + at + (20 + o .label .length)) (found ++ rs) 0 (drop (20 + o .label .length) (drop at part))))
+            (o .class)
             ∙ ap₂ (λ (v : List ℕ) (f : List Row → Outcome (List Row)).
-            andThen (rowsOf (inner (left - 1) depth) depth (outermost (base + at)) (base + at) (isOpened (l .class)) (l .length) v) f)
+            andThen (rowsOf (inner (left - 1) depth) depth (outermost (base + at)) (base + at) opened (o .label .length) v) f)
             value-is
             (ap₂ (λ (p : ℕ) (s : List ℕ). λ (rs : List Row). level (inner (left - 1) depth) depth outermost p (found ++ rs) 0 s)
-            place-is (drop-drop (20 + l .length) at part ∙ ap (λ (k : ℕ). drop k part) end-is))
+            place-is (drop-drop (20 + o .label .length) at part ∙ ap (λ (k : ℕ). drop k part) end-is))
           where
-            place-is : base + at + (20 + l .length) ≡ base + (at + 20 + l .length)
-            place-is = omega arith
+            place-is : base + at + (20 + o .label .length) ≡ base + end
+            place-is = omega (arith, o .ends)
 
-            end-is : at + (20 + l .length) ≡ at + 20 + l .length
-            end-is = omega arith
+            end-is : at + (20 + o .label .length) ≡ end
+            end-is = omega (arith, o .ends)
 
-        pub leaf-passed : isOpened (l .class) ≡ false → Sofar part base left (at + 20 + l .length) (rows + 1)
-        leaf-passed closed = record {
-          within = ends-inside;
-          few = omega (arith, sofar .few);
+      -- a leaf is one row more
+      pub leaf-passed : (end : ℕ) → ObjectAt part at false end → Sofar part base left end (rows + 1)
+      unfolding l
+      leaf-passed end o = record {
+        within = o .inside;
+        few = omega (arith, sofar .few, o .ends);
+        scanned = λ depth outermost.
+            let (found, many, is) = sofar .scanned depth outermost in
+            let row : Row = record { label = base + at; size = o .label .length; depth = depth; outermost = outermost (base + at) } in
+            (found ++ (row ∷ []), length-append found (row ∷ []) ∙ ap (λ (k : ℕ). k + 1) many, is ∙ goes-on false end o depth outermost found);
+      }
+
+      -- an opened object is the rows inside it more, or what is wrong there
+      module _ (end : ℕ) (o : ObjectAt part at true end) where
+        inside-is : (depth : ℕ) (outermost : ℕ → ℕ) (found : List Row) (r : Outcome (List Row))
+            → objects (left - 1) (suc depth) (λ _. outermost (base + at)) (base + (at + 20)) (value true end o) ≡ r
+            → level (inner (left - 1) depth) depth outermost (base + at) found 0 (drop at part) ≡ andThen r (after true end o depth outermost found)
+        inside-is depth outermost found r e =
+            goes-on true end o depth outermost found
+            ∙ ap (λ (x : Outcome (List Row)). andThen x (after true end o depth outermost found))
+            (ap (λ (p : ℕ). objects (left - 1) (suc depth) (λ _. outermost (base + at)) p (value true end o)) {x = base + at + 20} {y = base + (at + 20)} (omega arith) ∙ e)
+
+        pub group-passed : (n : ℕ) → Checked (value true end o) (base + (at + 20)) (left - 1) (answer n) → Sofar part base left end (rows + n)
+        group-passed n checked = record {
+          within = o .inside;
+          few = omega (arith, sofar .few, checked .few n refl, value-size true end o, o .ends);
           scanned = λ depth outermost.
               let (found, many, is) = sofar .scanned depth outermost in
-              let row : Row = record { label = base + at; size = l .length; depth = depth; outermost = outermost (base + at) } in
-              (found ++ (row ∷ []), length-append found (row ∷ []) ∙ ap (λ (k : ℕ). k + 1) many, is ∙ goes-on depth outermost found ∙ rw closed);
+              let (rs, rows-are, count-is) = mapped-answer length _ n (sym (checked .counts (suc depth) (λ _. outermost (base + at)))) in
+              (found ++ rs, length-append found rs ∙ ap₂ _+_ many count-is, is ∙ inside-is depth outermost found (answer rs) rows-are);
         }
 
-        module _ (opened : isOpened (l .class) ≡ true) where
-          goes-inside : (depth : ℕ) (outermost : ℕ → ℕ) (found : List Row) (o : Outcome (List Row))
-              → inner (left - 1) depth (outermost (base + at)) (base + at + 20) value ≡ o
-              → level (inner (left - 1) depth) depth outermost (base + at) found 0 (drop at part) ≡ andThen o (after depth outermost found)
-          goes-inside depth outermost found o e =
-              goes-on depth outermost found
-              ∙ ap (λ (t : Bool). andThen
-              (rowsOf (inner (left - 1) depth) depth (outermost (base + at)) (base + at) t (l .length) value) (after depth outermost found)) opened
-              ∙ ap (λ (x : Outcome (List Row)). andThen x (after depth outermost found)) e
-
-          pub group-passed : (n : ℕ) → Checked value (base + at + 20) (left - 1) (answer n)
-              → Sofar part base left (at + 20 + l .length) (rows + n)
-          group-passed n checked = record {
-            within = ends-inside;
-            few = omega (arith, sofar .few, checked .few n refl, small);
-            scanned = λ depth outermost.
-                let (found, many, is) = sofar .scanned depth outermost in
-                let (rs, rows-are, count-is) = first-answered (inner (left - 1) depth (outermost (base + at)) (base + at + 20) value) _ n
-                (sym (checked .counts (suc depth) (λ _. outermost (base + at)))) in (
-                  found ++ rs,
-                  length-append found rs ∙ ap₂ _+_ many (answer-injective count-is),
-                  is ∙ goes-inside depth outermost found (answer rs) rows-are,
-                );
-          }
-            where
-              small : length value ≤ l .length
-              small = omega (arith, length-take (at + 20 + l .length - (at + 20)) (drop (at + 20) part))
-
-          pub group-faulty : (n p : ℕ) → Checked value (base + at + 20) (left - 1) (refuse n p) → Checked part base left (refuse n p)
-          group-faulty n p checked = record {
-            counts = λ depth outermost.
-                let (found, many, is) = sofar .scanned depth outermost in
-                let fault = refused-first (inner (left - 1) depth (outermost (base + at)) (base + at + 20) value) length
-                (sym (checked .counts (suc depth) (λ _. outermost (base + at)))) in
-                sym (ap counting (is ∙ goes-inside depth outermost found (refuse n p) fault));
-            few = λ k z. absurd (answer-is-no-refusal (sym z));
-          }
-
--- what was read of `&part[at..]` is what stands at that place of the part
-pub seen-at : (part : List ℕ) (at : ℕ) {o : Outcome Label} → o ≡ object (take (length part - at) (drop at part)) → object (drop at part) ≡ o
-seen-at part at e = ap object (sym (all-that-is-left part at)) ∙ sym e
-
--- how long a value is, as the code cuts it
-pub part-length : (part : List ℕ) (body size : ℕ) → body + size ≤ length part → length (take (body + size - body) (drop body part)) ≡ size
-part-length part body size h =
-    ap length (from-to part body size) ∙ length-take-le size (drop body part) (omega (arith, length-drop body part))
+        pub group-faulty : (n p : ℕ) → Checked (value true end o) (base + (at + 20)) (left - 1) (refuse n p) → Checked part base left (refuse n p)
+        group-faulty n p checked = record {
+          counts = λ depth outermost.
+              let (found, many, is) = sofar .scanned depth outermost in
+              let fault = refused-first _ length (sym (checked .counts (suc depth) (λ _. outermost (base + at)))) in
+              sym (ap counting (is ∙ inside-is depth outermost found (refuse n p) fault));
+          few = λ k z. absurd (answer-is-no-refusal (sym z));
+        }

@@ -5,9 +5,10 @@ use Prim.Native.Nat.{ℕ, zero, suc, _+_}
 use mathlib.Core.Path.{_≡_}
 use mathlib.Core.Bool.{Bool, true, false}
 use mathlib.Core.List.{List, [], _∷_, _++_}
-use lib.ListN.{length, take, drop}
-use Rattle.answer.specs.Outcome.{Outcome, answer, refuse}
+use lib.ListN.{length}
+use Rattle.answer.specs.Outcome.{answer}
 use Rattle.label.specs.declared.Label.{Label}
+use Rattle.label.specs.Head.{labelSize}
 use Rattle.label.specs.Label.{readLabel}
 use Rattle.label.specs.Opened.{isOpened}
 use Rattle.sfdu.specs.Row.{Row}
@@ -25,7 +26,7 @@ encode (group label inside rest) = label ++ (encode inside ++ encode rest)
 
 -- twenty bytes that are a label with this length, of a class that is opened or not
 pub record IsLabel (bytes : List ℕ) (opened : Bool) (size : ℕ) : Type 0 where
-  pub twenty : length bytes ≡ 20
+  pub twenty : length bytes ≡ labelSize
   pub label : Label
   pub reads : readLabel bytes ≡ answer label
   pub class : isOpened (label .class) ≡ opened
@@ -45,31 +46,13 @@ abbrev pub leaves : ℕ → (ℕ → ℕ) → ℕ → Forest → List Row
 leaves depth outermost at done = []
 leaves depth outermost at (leaf label value rest) =
     record { label = at; size = length value; depth = depth; outermost = outermost at }
-    ∷ leaves depth outermost (at + (20 + length value)) rest
+    ∷ leaves depth outermost (at + (labelSize + length value)) rest
 leaves depth outermost at (group label inside rest) =
-    leaves (suc depth) (λ _. outermost at) (at + 20) inside
-    ++ leaves depth outermost (at + (20 + length (encode inside))) rest
+    leaves (suc depth) (λ _. outermost at) (at + labelSize) inside
+    ++ leaves depth outermost (at + (labelSize + length (encode inside))) rest
 
--- ---- the forest of an accepted file
-
-abbrev pub node : Bool → List ℕ → List ℕ → Forest → Forest → Forest
-node true label value inside rest = group label inside rest
-node false label value inside rest = leaf label value rest
-
-abbrev pub onTree : Outcome Label → (Label → Forest) → Forest
-onTree (answer l) f = f l
-onTree (refuse n p) f = done
-
--- the objects side by side, after so many bytes that are passed
-unfoldable pub trees : (List ℕ → Forest) → ℕ → List ℕ → Forest
-trees inside passed [] = done
-trees inside (suc passed) (b ∷ bs) = trees inside passed bs
-trees inside zero (b ∷ bs) =
-    onTree (readLabel (b ∷ bs))
-    λ l. node (isOpened (l .class)) (take 20 (b ∷ bs)) (take (l .length) (drop 20 (b ∷ bs)))
-    (inside (take (l .length) (drop 20 (b ∷ bs)))) (trees inside (19 + l .length) bs)
-
-unfoldable pub forestOf : ℕ → List ℕ → Forest
-unfolding trees
-forestOf zero s = done
-forestOf (suc left) s = trees (forestOf left) 0 s
+-- the values of its leaves, in file order
+abbrev pub values : Forest → List (List ℕ)
+values done = []
+values (leaf label value rest) = value ∷ values rest
+values (group label inside rest) = values inside ++ values rest

@@ -2,5 +2,4 @@ pub mod Row
 pub mod Scan
 pub mod Forest
 pub mod Check
-pub mod Walk
-pub mod Find
+pub mod Private

@@ -1,6 +1,10 @@
 -- A row of a labelled file and its address (document 01: "The rows of a labelled file are its leaves in file order,
 -- numbered from 0; the bytes of a row are the leaf's value").
 use Prim.Native.Nat.{ℕ, _+_}
+use mathlib.Core.List.{List}
+use Rattle.answer.specs.Window.{bytesAt}
+use Rattle.answer.specs.declared.Part.{Part}
+use Rattle.label.specs.Head.{labelSize}
 
 pub record Row : Type 0 where
   -- the place of its label, counted from the file's first byte
@@ -14,4 +18,12 @@ pub record Row : Type 0 where
 
 -- the place of a row's first byte: its value stands after the twenty bytes of its label
 abbrev pub valueAt : Row → ℕ
-valueAt r = r .label + 20
+valueAt r = r .label + labelSize
+
+-- a row as a part of the file: the leaf's value
+abbrev pub valueOf : Row → Part
+valueOf r = record { place = valueAt r; count = r .size }
+
+-- the bytes of a row of this file
+abbrev pub rowBytes : List ℕ → Row → List ℕ
+rowBytes f r = bytesAt f (valueAt r) (r .size)

@@ -8,13 +8,14 @@ use lib.ListN.{length, take, drop}
 use lib.Dec.{leb}
 use Rattle.answer.specs.Outcome.{Outcome, answer, refuse, need, andThen}
 use Rattle.label.specs.declared.Label.{Label}
+use Rattle.label.specs.Head.{labelSize}
 use Rattle.label.specs.Label.{readLabel}
 use Rattle.label.specs.Opened.{isOpened}
 use Rattle.sfdu.specs.Row.{Row}
 
 -- the label at the front of these bytes, whose value they hold: 1, 2, 3, 4
 unfoldable pub object : List ℕ → Outcome Label
-object s = andThen (readLabel s) (λ l. need (leb (l .length) (length s - 20)) 4 (answer l))
+object s = andThen (readLabel s) (λ l. need (leb (l .length) (length s - labelSize)) 4 (answer l))
 
 -- a fault of the label at `at` is reported there; else go on with what it says
 abbrev pub onLabel : {A : Type 0} → ℕ → Outcome Label → (Label → Outcome A) → Outcome A
@@ -27,7 +28,7 @@ Inside = ℕ → ℕ → List ℕ → Outcome (List Row)
 
 -- the rows of one object at `at` with this value: those inside it where it is opened, else itself
 abbrev pub rowsOf : Inside → ℕ → ℕ → ℕ → Bool → ℕ → List ℕ → Outcome (List Row)
-rowsOf inside depth outermost at true size value = inside outermost (at + 20) value
+rowsOf inside depth outermost at true size value = inside outermost (at + labelSize) value
 rowsOf inside depth outermost at false size value =
     answer (record { label = at; size = size; depth = depth; outermost = outermost } ∷ [])
 
@@ -38,7 +39,7 @@ level inside depth outermost at found passed [] = answer found
 level inside depth outermost at found (suc passed) (b ∷ bs) = level inside depth outermost (suc at) found passed bs
 level inside depth outermost at found zero (b ∷ bs) =
     onLabel at (object (b ∷ bs))
-    λ l. andThen (rowsOf inside depth (outermost at) at (isOpened (l .class)) (l .length) (take (l .length) (drop 20 (b ∷ bs))))
+    λ l. andThen (rowsOf inside depth (outermost at) at (isOpened (l .class)) (l .length) (take (l .length) (drop labelSize (b ∷ bs))))
     λ rows. level inside depth outermost (suc at) (found ++ rows) (19 + l .length) bs
 
 -- Objects with `left` more depths allowed: none where a label would stand one too deep (refusal 5).

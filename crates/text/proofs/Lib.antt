@@ -1,3 +1,4 @@
+pub mod Digits
 pub mod Unpadded
 pub mod ReadBack
 pub mod Spelling

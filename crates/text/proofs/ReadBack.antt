@@ -7,8 +7,8 @@ use mathlib.Core.List.{List, [], _∷_, _++_}
 use mathlib.Core.Option.{some}
 use lib.Dec.{eqb}
 use borrow.Author.Tests.{eqb-true}
-use Rattle.label.specs.Length.{decimal, digitsOf}
-use Rattle.label.proofs.Decimal.{digits-read-back}
+use Rattle.text.specs.Digits.{decimal, digitsOf}
+use Rattle.text.proofs.Digits.{digits-read-back}
 use Rattle.text.specs.Decimal.{either, unpadded, decimalText}
 
 -- zeros in front change nothing

@@ -6,7 +6,7 @@ use native.Mathlib.Omega.{arith}
 use mathlib.Core.Path.{_≡_, _∙_, sym, ap, subst}
 use mathlib.Core.List.{List, [], _∷_, _++_, append-assoc}
 use lib.ListN.{length, set, drop, length-set, drop-of-length-le}
-use Rattle.label.specs.Length.{digitsOf}
+use Rattle.text.specs.Digits.{digitsOf}
 use Rattle.text.specs.Decimal.{unpadded, decimalText}
 use Rattle.text.proofs.Unpadded.{no-digits-of-nought, tens-then-last, set-in-front}
 

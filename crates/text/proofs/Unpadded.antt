@@ -11,7 +11,7 @@ use lib.ListN.{length, set, drop, length-append, length-set}
 use lib.Seq.{drop-cons, getD-set-same, drop-set-lt}
 use lib.Dec.{eqb}
 use borrow.Author.Tests.{ne-eqb}
-use Rattle.label.specs.Length.{digitsOf}
+use Rattle.text.specs.Digits.{digitsOf}
 use Rattle.text.specs.Decimal.{either, unpadded, decimalText}
 
 -- ---- a list of digits, and more behind it

@@ -6,7 +6,7 @@ use mathlib.Core.Bool.{Bool, true, false}
 use mathlib.Core.List.{List, [], _∷_, _++_}
 use lib.ListN.{length, drop}
 use lib.Dec.{eqb}
-use Rattle.label.specs.Length.{digitsOf}
+use Rattle.text.specs.Digits.{digitsOf}
 use Rattle.text.specs.declared.Numeral.{Numeral}
 
 abbrev pub either : Bool → List ℕ → List ℕ → List ℕ

@@ -1,6 +1,6 @@
-// Numbers as text. Renders the numbers that document 01's list program prints, "rows N", places
-// and lengths: decimal digits without leading zeros. What stands around a number in a line is
-// left to the crates above.
+// Decimal digits: how a number is written with them and read from them. Renders the digits of the
+// label's length field and the numbers that document 01's list program prints, without leading
+// zeros. What stands around a number is left to the crates above.
 ghost use mathlib.Core.Path.{_≡_};
 ghost use Prim.Native.Nat.{_+_, _%_};
 ghost use Rattle.text.specs.Decimal.{Spells, decimalText};
@@ -11,7 +11,8 @@ pub struct Numeral {
     pub first: usize,
 }
 
-fn last_digit(n: usize) -> u8
+// The character of a number's last decimal digit.
+pub fn last_digit(n: usize) -> u8
     ensures { λ r. ⌜ r ≡ 48 + n % 10 ⌝ }
 {
     48 + (n % 10) as u8

@@ -1,19 +1,17 @@
--- Document 01's two ways to a row agree: for any bytes, any row number and any window, the jump, which computes the
--- place, answers or refuses exactly as reading from the first byte, which passes row after row. Nothing is supposed of
--- the bytes: a file that is refused is refused alike, and over whole rows the passing ends at the product.
+-- Document 01's two ways to a row agree: for any bytes and any row number the jump, which computes the place, answers or
+-- refuses exactly as reading from the first byte, which passes row after row. Nothing is supposed of the bytes: a file that is refused is refused alike, and over whole rows the passing ends at the product.
 use Prim.Native.Nat.{ℕ}
 use native.Mathlib.Nat.{zero-add}
 use native.Mathlib.Omega.{arith}
 use mathlib.Core.Path.{_≡_, refl, _∙_, sym, ap}
 use mathlib.Core.List.{List}
 use lib.Dec.{ltb}
-use Rattle.answer.specs.Outcome.{Outcome, answer, refuse, need, andThen}
-use Rattle.answer.specs.Window.{windowOf}
-use Rattle.waveform.specs.Rows.{rowSize, prefixSize, samplesSize, firstSample}
+use Rattle.answer.specs.Outcome.{Outcome, answer, refuse, need, andThen, mapped}
+use Rattle.waveform.specs.Rows.{rowSize, prefixSize, firstSample, samplesFrom}
 use Rattle.waveform.specs.Check.{rowCount}
 use Rattle.waveform.specs.Passing.{passing}
-use Rattle.waveform.specs.Read.{readPlace, readRow}
-use Rattle.waveform.specs.Jump.{jumpPlace, jumpRow}
+use Rattle.waveform.specs.Read.{readPlace, findRow}
+use Rattle.waveform.specs.Jump.{jumpPlace, jumpTo}
 use Rattle.waveform.proofs.Passing.{passing-multiplies}
 use Rattle.waveform.proofs.Accepted.{accepted-is-whole}
 
@@ -30,6 +28,5 @@ jump-place-is-read-place f k = go (rowCount f) refl
     go (refuse m p) e = refl
 
 -- the two ways agree
-pub jump-is-read : (f : List ℕ) (k a c : ℕ) → jumpRow f k a c ≡ readRow f k a c
-jump-is-read f k a c =
-    ap (λ (o : Outcome ℕ). andThen o (λ first. windowOf first samplesSize a c)) (jump-place-is-read-place f k)
+pub jump-is-read : (f : List ℕ) (k : ℕ) → jumpTo f k ≡ findRow f k
+jump-is-read f k = ap (mapped samplesFrom) (jump-place-is-read-place f k)

@@ -1,22 +1,21 @@
--- The rows of a waveform file: row k is there exactly where k is below the count of rows, its samples are the 2,048
--- bytes from 2,080·k + 32 on, and the next row's stand 2,080 bytes further.
-use Prim.Native.Nat.{ℕ, suc, _+_, _≤_, _<_}
-use native.Mathlib.Nat.{mul-suc}
+-- The rows of a waveform file: row k is there exactly where k is below the count of rows, and its samples are the 2,048
+-- bytes from 2,080·k + 32 on.
+use Prim.Native.Nat.{ℕ, _+_, _≤_, _<_}
 use native.Mathlib.Omega.{arith}
-use mathlib.Core.Path.{_≡_, refl, _∙_, sym, ap}
-use mathlib.Core.Logic.{_↔_}
+use mathlib.Core.Path.{_≡_, refl, _∙_, sym, ap, subst}
 use mathlib.Core.Bool.{Bool, true, false}
 use mathlib.Core.List.{List}
-use lib.ListN.{length, length-take, length-drop}
+use lib.ListN.{length}
 use lib.Dec.{ltb}
-use borrow.Author.Tests.{lt-ltb, le-ltb, ltb-true, ltb-false}
-use Rattle.answer.specs.Outcome.{Outcome, answer, refuse, need, andThen}
-use Rattle.waveform.specs.Rows.{rowSize, samplesSize, firstSample, rowAt}
+use borrow.Author.Tests.{lt-ltb, le-ltb, ltb-true}
+use Rattle.answer.specs.Outcome.{Outcome, answer, refuse, need, andThen, mapped}
+use Rattle.answer.specs.declared.Part.{Part}
+use Rattle.waveform.specs.Rows.{samplesSize, firstSample, samplesFrom}
 use Rattle.waveform.specs.Check.{rowCount}
-use Rattle.waveform.specs.Read.{readPlace}
+use Rattle.waveform.specs.Read.{readPlace, findRow}
 use Rattle.waveform.specs.Jump.{jumpPlace}
-use Rattle.answer.proofs.Outcomes.{after-answer}
-use Rattle.waveform.proofs.Accepted.{Whole, accepted-is-whole}
+use Rattle.answer.proofs.Outcomes.{after-answer, mapped-answer}
+use Rattle.waveform.proofs.Accepted.{accepted-is-whole}
 use Rattle.waveform.proofs.JumpIsRead.{jump-place-is-read-place}
 
 -- a row that stands at p: the file's count of rows, and the row's number below it
@@ -54,47 +53,16 @@ found-is-inside f k p e =
     omega (arith, r .place, r .below, accepted-is-whole f (r .rows) (r .counted) .rows)
 
 module _ (f : List ℕ) (n : ℕ) (e : rowCount f ≡ answer n) where
-  -- row k of an accepted file is there, at 2,080·k + 32, exactly where k is below the count of rows
-  pub row-is-there : (k : ℕ) → (readPlace f k ≡ answer (firstSample k)) ↔ (k < n)
-  row-is-there k = (
-    λ q.
-        let r = found-is-row f k (firstSample k) q in
-        let m : r .rows ≡ n = cc (r .counted) in
-        omega (arith, m, r .below),
-    λ h. sym (jump-place-is-read-place f k) ∙ jump-finds f k n e h,
-  )
+  -- row k is there, at 2,080·k + 32, where k is below the count of rows
+  pub row-is-there : (k : ℕ) → k < n → findRow f k ≡ answer (samplesFrom (firstSample k))
+  row-is-there k h = ap (mapped samplesFrom) (sym (jump-place-is-read-place f k) ∙ jump-finds f k n e h)
 
-  -- its 2,048 samples are there exactly then
-  pub row-is-whole : (k : ℕ) → (length (rowAt f k) ≡ samplesSize) ↔ (k < n)
-  row-is-whole k =
-      let w = accepted-is-whole f n e .rows in (
-        λ q. omega (arith, w, simp (length-take, length-drop) at q),
-        λ h. simp (length-take, length-drop) (omega (arith, w)),
-      )
+  -- and nowhere else
+  pub no-such-row : (k : ℕ) → n ≤ k → findRow f k ≡ refuse 6 0
+  no-such-row k h = ap (mapped samplesFrom) (sym (jump-place-is-read-place f k) ∙ jump-misses f k n e h)
 
--- the next row stands 2,080 bytes further
-pub next-first-sample : (k : ℕ) → firstSample (suc k) ≡ rowSize + firstSample k
-next-first-sample k = omega (arith, mul-suc rowSize k)
-
--- from row k, found at p, to the next: 2,080 bytes further, unless the file ends with row k
-pub next-row : (f : List ℕ) (k p : ℕ) → readPlace f k ≡ answer p
-    → readPlace f (k + 1) ≡ need (ltb (p + samplesSize) (length f)) 6 (answer (p + rowSize))
-next-row f k p e = go (ltb (p + samplesSize) (length f)) refl
-  where
-    r : Found f k p
-    r = found-is-row f k p e
-
-    w : Whole f (r .rows)
-    w = accepted-is-whole f (r .rows) (r .counted)
-
-    go : (more : Bool) → ltb (p + samplesSize) (length f) ≡ more
-        → readPlace f (k + 1) ≡ need more 6 (answer (p + rowSize))
-    go true t =
-        sym (jump-place-is-read-place f (k + 1))
-        ∙ jump-finds f (k + 1) (r .rows) (r .counted)
-        (omega (arith, w .rows, r .place, ltb-true (p + samplesSize) (length f) t))
-        ∙ ap answer (omega (arith, r .place))
-    go false t =
-        sym (jump-place-is-read-place f (k + 1))
-        ∙ jump-misses f (k + 1) (r .rows) (r .counted)
-        (omega (arith, w .rows, r .place, ltb-false (p + samplesSize) (length f) t))
+-- a row that was found lies in the file
+pub row-inside : (f : List ℕ) (k : ℕ) (p : Part) → findRow f k ≡ answer p → p .place + p .count ≤ length f
+row-inside f k p e =
+    let q = mapped-answer samplesFrom (readPlace f k) p e in
+    subst (λ (r : Part). r .place + r .count ≤ length f) (q .2) (found-is-inside f k (q .0) (q .1))

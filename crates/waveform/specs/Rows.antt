@@ -1,11 +1,11 @@
 -- The rows of an RPWS wideband file (document 01, "Waveform files"; source document 003, appendix E, the objects
 -- WBR_ROW_PREFIX_TABLE and TIME_SERIES): 32 bytes of prefix, then 2,048 samples of one byte, row after row with nothing
 -- before, between or after them.
-use Prim.Native.Nat.{ℕ, _+_, _*_}
+use Prim.Native.Nat.{ℕ, zero, suc, _+_, _*_}
 use mathlib.Core.Path.{_≡_}
 use mathlib.Core.List.{List, [], _∷_, _++_}
-use lib.ListN.{length, getD}
-use Rattle.answer.specs.Window.{bytesAt}
+use lib.ListN.{length}
+use Rattle.answer.specs.declared.Part.{Part}
 
 -- the bytes of a row in the file, those of its prefix, and those of its samples
 abbrev pub rowSize : ℕ
@@ -21,20 +21,27 @@ samplesSize = 2048
 abbrev pub firstSample : ℕ → ℕ
 firstSample k = rowSize * k + prefixSize
 
--- the bytes of row k: its samples and not its prefix (the same paragraph)
-abbrev pub rowAt : List ℕ → ℕ → List ℕ
-rowAt f k = bytesAt f (firstSample k) samplesSize
+-- the row whose first sample is at this place: its samples and not its prefix
+abbrev pub samplesFrom : ℕ → Part
+samplesFrom first = record { place = first; count = samplesSize }
 
--- the byte behind sample i of row k, samples counted from 0
-abbrev pub byteBehind : List ℕ → ℕ → ℕ → ℕ
-byteBehind f k i = getD f (firstSample k + i) 0
+-- n rows, from row k on
+abbrev pub sampleParts : ℕ → ℕ → List Part
+sampleParts k zero = []
+sampleParts k (suc n) = samplesFrom (firstSample k) ∷ sampleParts (suc k) n
 
--- a row as it stands in a file
+-- a row as it stands in a file: 32 bytes and then 2,048
 pub record Row : Type 0 where
   pub prefix : List ℕ
   pub samples : List ℕ
-  pub prefix-size : length prefix ≡ prefixSize
-  pub samples-size : length samples ≡ samplesSize
+
+pub record IsRow (r : Row) : Type 0 where
+  pub prefix-size : length (r .prefix) ≡ prefixSize
+  pub samples-size : length (r .samples) ≡ samplesSize
+
+abbrev pub AreRows : List Row → Type 0
+AreRows [] = Unit
+AreRows (r ∷ rs) = IsRow r × AreRows rs
 
 -- the bytes of rows set end to end: what a waveform file is
 abbrev pub endToEnd : List Row → List ℕ

@@ -1,20 +1,23 @@
 // Cassini RPWS wideband (WBR) files: rows of 2,080 bytes, each a prefix of 32 and then 2,048 samples of one byte
 // (document 01, "Waveform files"; source document 003, appendix E). Row k is found in two ways, by passing the rows
-// before it and by computing its place; `proofs/JumpIsRead.antt` proves that they never differ.
+// before it and by computing its place; `proofs/JumpIsRead.antt` proves that they never differ. Windows of a row are
+// left to the reader.
 //
 // The caller vouches for the kind of the file. The RPWS waveform receiver's product (WFR) has rows of the same 2,080
 // bytes with 1,024 samples of two bytes: nothing in the size of a file tells the two apart, and nothing here looks into
 // the prefix.
 ghost use mathlib.Core.Path.{_≡_};
-ghost use Prim.Native.Nat.{ℕ, _≤_};
-ghost use Rattle.answer.specs.Outcome.{answer, andThen};
+ghost use Prim.Native.Nat.{_≤_};
+ghost use Rattle.answer.specs.Outcome.{mapped};
+ghost use Rattle.answer.specs.Size.{largestFile};
 ghost use Rattle.answer.specs.Counted.{counted};
-ghost use Rattle.answer.specs.Window.{shown, fits, windowOf};
-ghost use Rattle.waveform.specs.Rows.{rowSize, prefixSize, samplesSize, firstSample};
+ghost use Rattle.answer.specs.Window.{shown};
+ghost use Rattle.waveform.specs.Rows.{rowSize, prefixSize, firstSample, samplesFrom};
 ghost use Rattle.waveform.specs.Check.{rowCount};
 ghost use Rattle.waveform.specs.Passing.{passing};
-ghost use Rattle.waveform.specs.Read.{readPlace, readRow};
-ghost use Rattle.waveform.specs.Jump.{jumpPlace, jumpRow};
+ghost use Rattle.waveform.specs.Read.{readPlace, findRow};
+ghost use Rattle.waveform.specs.Jump.{jumpPlace, jumpTo};
+ghost use Rattle.waveform.specs.From.{placeFrom, rowFrom};
 ghost use Rattle.waveform.specs.Sample.{twiceAmplitude};
 use answer::Count;
 use answer::Part;
@@ -28,14 +31,11 @@ const PREFIX: usize = 32;
 
 const SAMPLES: usize = 2048;
 
-// The most bytes that a file may have.
-const LARGEST: usize = 4294967295;
-
 // The number of rows; 14 for a file that is too large, 12 for one that is not whole rows.
 pub fn check(file: &[u8]) -> Count
     ensures { λ r. ⌜ counted r ≡ rowCount (now (file .entry)) ⌝ }
 {
-    if LARGEST < file.len() {
+    if answer::LARGEST_FILE < file.len() {
         return Count::Refused(Refusal::TooBig, 0);
     }
     if file.len() % ROW != 0 {
@@ -44,18 +44,25 @@ pub fn check(file: &[u8]) -> Count
     Count::Is(file.len() / ROW)
 }
 
-// The window of `c` bytes from sample `a` on of row `k`, found by passing the rows before it: 14, 12, 6, 7.
-pub fn read_row(file: &[u8], k: usize, a: usize, c: usize) -> Show
-    ensures { λ r. ⌜ shown r ≡ readRow (now (file .entry)) k a c ⌝ }
+// The samples of row `k`, found by passing the rows before it: 14, 12, 6.
+pub fn find_row(file: &[u8], k: usize) -> Show
+    ensures { λ r. ⌜ shown r ≡ findRow (now (file .entry)) k ⌝ }
 {
-    window_of(read_place(file, k), a, c)
+    samples_from(read_place(file, k))
 }
 
-// The same window, found by computing the row's place: 14, 12, 6, 7.
-pub fn jump_row(file: &[u8], k: usize, a: usize, c: usize) -> Show
-    ensures { λ r. ⌜ shown r ≡ jumpRow (now (file .entry)) k a c ⌝ }
+// The same samples, found by computing the row's place: 14, 12, 6.
+pub fn jump_to(file: &[u8], k: usize) -> Show
+    ensures { λ r. ⌜ shown r ≡ jumpTo (now (file .entry)) k ⌝ }
 {
-    window_of(jump_place(file, k), a, c)
+    samples_from(jump_place(file, k))
+}
+
+// Going on: the samples of the row that begins at place `from`: 14, 12, and 6 where none begins there.
+pub fn row_from(file: &[u8], from: usize) -> Show
+    ensures { λ r. ⌜ shown r ≡ rowFrom (now (file .entry)) from ⌝ }
+{
+    samples_from(place_from(file, from))
 }
 
 // Twice the amplitude that a sample byte stands for, from -255 to 255 and never 0.
@@ -111,33 +118,40 @@ fn jump_place(file: &[u8], k: usize) -> Count
 
 // The place of a row's first sample.
 fn first_sample(k: usize) -> usize
-    requires { ⌜ k ≤ 4294967295 ⌝ }
+    requires { ⌜ k ≤ largestFile ⌝ }
     ensures { λ r. ⌜ r ≡ firstSample k ⌝ }
 {
     ROW * k + PREFIX
 }
 
-// The window of the row whose first sample is at the place found, or 7. A place in a slice is below 2^63, so that the
-// sum does not wrap.
-fn window_of(found: Count, a: usize, c: usize) -> Show
-    requires { ⌜ ((p : ℕ) → counted found ≡ answer p → p ≤ 9223372036854775807) ⌝ }
-    ensures { λ r. ⌜ shown r ≡ andThen (counted found) (λ first. windowOf first samplesSize a c) ⌝ }
+// The place of the first sample of the row that begins at place `from`.
+fn place_from(file: &[u8], from: usize) -> Count
+    ensures { λ r. ⌜ counted r ≡ placeFrom (now (file .entry)) from ⌝ }
 {
-    match found {
-        Count::Is(first) => {
-            if in_row(a, c) {
-                let place = first + a;
-                return Show::Is(Part { place, count: c });
+    match check(file) {
+        Count::Is(_) => {
+            if file.len() <= from {
+                return Count::Refused(Refusal::NoRow, 0);
             }
-            Show::Refused(Refusal::NoPart, 0)
+            if from % ROW != 0 {
+                return Count::Refused(Refusal::NoRow, 0);
+            }
+            let first = from + PREFIX;
+            Count::Is(first)
         }
-        Count::Refused(why, place) => Show::Refused(why, place),
+        Count::Refused(why, place) => Count::Refused(why, place),
     }
 }
 
-// Whether a window fits the samples of a row.
-fn in_row(a: usize, c: usize) -> bool
-    ensures { λ r. ⌜ r ≡ fits samplesSize a c ⌝ }
+// The samples of a row whose first one is at the place found.
+fn samples_from(found: Count) -> Show
+    ensures { λ r. ⌜ shown r ≡ mapped samplesFrom (counted found) ⌝ }
 {
-    answer::window_fits(SAMPLES, a, c)
+    match found {
+        Count::Is(place) => Show::Is(Part {
+            place,
+            count: SAMPLES,
+        }),
+        Count::Refused(why, place) => Show::Refused(why, place),
+    }
 }

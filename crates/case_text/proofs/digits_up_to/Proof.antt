@@ -6,7 +6,7 @@ use mathlib.Core.List.{List}
 use lib.ListN.{length, drop, drop-of-length-le}
 use denote.Ref.{now}
 use borrow.Author.Needs.{needs}
-use Rattle.label.specs.Length.{decimal}
+use Rattle.text.specs.Digits.{decimal}
 use Rattle.case_text.specs.Number.{upTo}
 use Rattle.case_text.proofs.Digits.{all-read, low-byte, high-byte, next-digit, too-large}
 use Rattle.case_text.proofs.digits_up_to.Statement.{statement}

@@ -2,7 +2,7 @@
 use mathlib.Core.Path.{_∙_, sym, ap}
 use mathlib.Core.Bool.{Bool}
 use denote.Ref.{now}
-use Rattle.label.specs.Length.{given, decimal}
+use Rattle.text.specs.Digits.{given, decimal}
 use Rattle.case_text.specs.Number.{upTo}
 use borrow.Author.Needs.{needs}
 use Rattle.case_text.proofs.read_number.Statement.{statement}

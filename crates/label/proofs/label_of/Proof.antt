@@ -7,7 +7,7 @@ use denote.Ref.{now}
 use Rattle.answer.specs.Outcome.{Outcome, answer}
 use Rattle.label.specs.declared.Four.{Four}
 use Rattle.label.specs.declared.Label.{Label}
-use Rattle.label.specs.Length.{fieldRead}
+use Rattle.label.specs.Private.{fieldRead}
 use Rattle.label.specs.Label.{withLength}
 use borrow.Author.Tests.{not-true, not-false}
 use Rattle.label.proofs.Reading.{bad-head, good-head}

@@ -7,8 +7,10 @@ use mathlib.Core.List.{List}
 use lib.ListN.{drop, drop-of-length-le}
 use borrow.Author.Needs.{needs}
 use denote.Ref.{now}
-use Rattle.label.specs.Length.{decimal, lengthOf}
-use Rattle.label.proofs.Decimal.{one-digit-more, eight-digits-at-most, next-digit, low-byte, high-byte}
+use Rattle.text.specs.Digits.{decimal}
+use Rattle.text.proofs.Digits.{one-digit-more}
+use Rattle.label.specs.Length.{lengthOf}
+use Rattle.label.proofs.LengthField.{eight-digits-at-most, next-digit, low-byte, high-byte}
 use Rattle.label.proofs.length_field.Statement.{statement}
 use Rattle.label.proofs.length_field.Tie as tie
 

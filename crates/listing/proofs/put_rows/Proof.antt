@@ -4,7 +4,7 @@ use Prim.Native.Nat.{_-_}
 use native.Mathlib.Omega.{arith}
 use mathlib.Core.Path.{_∙_, sym, ap}
 use borrow.Author.Needs.{needs}
-use Rattle.sfdu.specs.Walk.{walkedTo}
+use Rattle.walk.specs.Walk.{walkedTo}
 use Rattle.listing.proofs.Underway.{Underway, Comes, sets-out, arrives, never-refused, ends-in-the-file, line-is-whole, line-has-room, text-was-put, turns}
 use Rattle.listing.proofs.put_rows.Statement.{statement}
 use Rattle.listing.proofs.put_rows.Tie as tie
@@ -24,12 +24,12 @@ walk-from-requires c κs = search needs
 enum-known-leaf : tie.Need-enum-known-leaf Inv-loop μ-loop
 enum-known-leaf c = search needs
 
-row-line-requires : tie.Need-row-line-requires Inv-loop μ-loop
-row-line-requires c κs = search needs
-
 -- the leaf that the walk came to, where its label is bound
 comes : (c : tie.After-leaf Inv-loop μ-loop) → Comes (c .before .before .before .before .loop .inv) (c .leaf .given .0 .0)
 comes c = record { more = c .before .before .before .loop-test .taken; walked = sym (c .before .before .walk-from .ensures) ∙ ap walkedTo (c .leaf .given .1) }
+
+row-line-requires : tie.Need-row-line-requires Inv-loop μ-loop
+row-line-requires c κs = omega (arith, ends-in-the-file (comes (c .before)))
 
 put-requires : tie.Need-put-requires Inv-loop μ-loop
 put-requires c κs =

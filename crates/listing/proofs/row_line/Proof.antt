@@ -1,14 +1,11 @@
 -- `listing::row_line` meets its contract: six pieces in the order of `rowText`.
-use Prim.Native.Nat.{ℕ}
-use mathlib.Core.Path.{subst}
-use Rattle.listing.specs.Line.{Holds, rowText}
 use Rattle.listing.proofs.Lines.{six-pieces}
 use borrow.Author.Needs.{needs}
 use Rattle.listing.proofs.row_line.Statement.{statement}
 use Rattle.listing.proofs.row_line.Tie as tie
 
-wrapping-add-usize-requires : tie.Need-wrapping-add-usize-requires
-wrapping-add-usize-requires c κs = search needs
+add-place : tie.Need-add-place
+add-place c = search needs
 
 nothing-requires : tie.Need-nothing-requires
 nothing-requires c κs = search needs
@@ -42,18 +39,16 @@ with-requires-3 c κs = search needs
 
 returns : tie.Need-returns
 returns c =
-    let a = c .before .before .before .before .before .before .before .before .before .before .before .before .before .args in
-    let l = a .leaf .label in
-    let place = c .before .before .before .before .before .before .before .before .before .before .wrapping-add-usize in
-    subst (λ (at : ℕ). Holds (c .with3 .result) (rowText (a .number) at (l .length) (l .description))) (place .ensures)
-    (six-pieces (c .before .before .before .before .before .before .before .before .before .nothing .ensures) (c .before .before .before .before .before .before .before .before .with-number .ensures .0) (c .before .before .before .before .before .before .with .ensures)
-    (c .before .before .before .before .before .with-number2 .ensures .0) (c .before .before .before .with2 .ensures) (c .before .before .with-number3 .ensures .0) (c .with3 .ensures))
+    six-pieces (c .before .before .before .before .before .before .before .before .before .nothing .ensures)
+    (c .before .before .before .before .before .before .before .before .with-number .ensures .0) (c .before .before .before .before .before .before .with .ensures)
+    (c .before .before .before .before .before .with-number2 .ensures .0) (c .before .before .before .with2 .ensures)
+    (c .before .before .with-number3 .ensures .0) (c .with3 .ensures)
 
 pub row-line-spec : {M : Type 1} → statement M
 row-line-spec =
     tie.close
     (tie.spec
-    wrapping-add-usize-requires
+    add-place
     nothing-requires
     with-number-requires
     slice-aggregate-with

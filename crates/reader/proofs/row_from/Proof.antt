@@ -16,18 +16,21 @@ value-from-requires c κs = search needs
 enum-told-2 : tie.Need-enum-told-2
 enum-told-2 c = search needs
 
-waveform-from-requires : tie.Need-waveform-from-requires
-waveform-from-requires c κs = search needs
+row-from-requires : tie.Need-row-from-requires
+row-from-requires c κs = search needs
 
 returns : tie.Need-returns
 unfolding rowFrom
-returns c = c .value-from .ensures ∙ ap (λ (t : Kind). rowFrom t (now (c .before .before .before .before .args .file)) (c .before .before .before .before .args .from)) (sym (c .before .enum-told .given .1))
+returns c =
+    let a = c .before .before .before .before .args in
+    c .value-from .ensures ∙ ap (λ (t : Kind). rowFrom t (now (a .file)) (a .from)) (sym (c .before .enum-told .given .1))
 
 returns-2 : tie.Need-returns-2
 unfolding rowFrom
-returns-2 c = c .waveform-from .ensures ∙ ap (λ (t : Kind). rowFrom t (now (c .before .before .before .before .args .file)) (c .before .before .before .before .args .from)) (sym (c .before .enum-told2 .given .1))
+returns-2 c =
+    let a = c .before .before .before .before .args in
+    c .row-from .ensures ∙ ap (λ (t : Kind). rowFrom t (now (a .file)) (a .from)) (sym (c .before .enum-told2 .given .1))
 
 pub row-from-spec : {M : Type 1} → statement M
 row-from-spec =
-    tie.close
-    (tie.spec enum-told value-from-requires enum-told-2 waveform-from-requires returns returns-2)
+    tie.close (tie.spec enum-told value-from-requires enum-told-2 row-from-requires returns returns-2)

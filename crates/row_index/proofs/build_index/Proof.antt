@@ -1,17 +1,21 @@
--- `row_index::build_index` meets its contract: refused as the check refuses, no room, or the whole index at the front.
+-- `row_index::build_index` meets its contract: refused as the check refuses, no room, or the whole index at the front. What the
+-- check's count says is `is`, and that there are as many entries as groups is `all`.
 use native.Mathlib.Omega.{arith}
-use Prim.Native.Nat.{ℕ, _≤_}
+use Prim.Native.Nat.{ℕ}
 use native.Mathlib.Nat.{le-of-eq}
-use mathlib.Core.Path.{_≡_, _∙_, sym, ap}
+use mathlib.Core.Path.{_≡_, _∙_, sym, ap, ap₂}
 use mathlib.Core.List.{List, _++_}
 use lib.ListN.{length, drop}
 use lib.Seq.{take-all}
 use denote.Ref.{now}
-use Rattle.answer.specs.Outcome.{Outcome, answer}
+use Rattle.answer.specs.Outcome.{Outcome, answer, mapped}
 use Rattle.answer.specs.Counted.{counted}
 use Rattle.answer.specs.Filled.{filled}
+use Rattle.sfdu.specs.Row.{Row}
+use Rattle.sfdu.specs.Check.{checkLabelled}
 use Rattle.sfdu.proofs.Checking.{accepted-says}
-use Rattle.row_index.specs.Index.{theIndex}
+use Rattle.row_index.specs.Index.{indexOf, builtOf}
+use Rattle.row_index.specs.Private.{theIndex}
 use Rattle.row_index.proofs.Building.{rows-counted, entries-counted, no-room-to-build, index-is-built, not-built}
 use borrow.Author.Needs.{needs}
 use Rattle.row_index.proofs.build_index.Statement.{statement}
@@ -29,56 +33,47 @@ enum-known-rows c = search needs
 groups-requires : tie.Need-groups-requires
 groups-requires c κs = search needs
 
+is : (c : tie.After-rows) → checkLabelled (now (c .before .before .before .before .before .args .file)) ≡ answer (c .rows .given .0 .0)
+is c = sym (c .before .before .check .ensures) ∙ ap counted (c .rows .given .1)
+
+all : (c : tie.After-groups) → length (theIndex (now (c .before .before .before .before .before .before .before .args .file))) ≡ c .groups .result
+all c = entries-counted (now (c .before .before .before .before .before .before .before .args .file)) _ (is (c .before .before)) ∙ sym (c .groups .ensures)
+
+-- a refusal is answered, and nothing is written
+refused : (xs : List ℕ) {o r : Outcome (List Row)} → o ≡ r → (mapped builtOf r ≡ mapped builtOf o) × (filled (mapped indexOf r) xs ≡ filled (mapped indexOf o) xs)
+refused xs e = (ap (mapped builtOf) (sym e), ap (λ (r : Outcome (List Row)). filled (mapped indexOf r) xs) (sym e))
+
 returns : tie.Need-returns
 returns c =
-    let a = c .before .before .before .before .before .before .before .before .args in
-    let f = now (a .file) in
-    let xs = now (a .list) in
-    let n = c .before .before .before .rows .given .0 .0 in
-    let is = sym (c .before .before .before .before .before .check .ensures) ∙ ap counted (c .before .before .before .rows .given .1) in
-    let k = c .before .groups .ensures in
-    let no = no-room-to-build f n is (length xs) (omega (arith, k, c .if1 .taken)) in
-    (sym (no .0), ap (λ (o : Outcome (List ℕ)). filled o xs) (sym (no .1)))
+    refused (now (c .before .before .before .before .before .before .before .before .args .list))
+    (no-room-to-build (now (c .before .before .before .before .before .before .before .before .args .file)) _ (is (c .before .before .before)) _ (omega (arith, c .before .groups .ensures, c .if1 .taken)))
 
 write-entries-requires : tie.Need-write-entries-requires
 write-entries-requires c κs =
-    let a = c .before .before .before .before .before .before .before .before .before .args in
-    let f = now (a .file) in
-    let xs = now (a .list) in
-    let n = c .before .before .before .before .rows .given .0 .0 in
-    let is = sym (c .before .before .before .before .before .before .check .ensures) ∙ ap counted (c .before .before .before .before .rows .given .1) in
-    let k = c .before .before .groups .ensures in
-    let (rows, accepted, many) = rows-counted f n is in
-    (accepted-says f rows accepted .0, omega (arith, k, entries-counted f n is), c .before .if1 .left)
+    let (rows, accepted, many) = rows-counted (now (c .before .before .before .before .before .before .before .before .before .args .file)) _ (is (c .before .before .before .before)) in
+    (accepted-says (now (c .before .before .before .before .before .before .before .before .before .args .file)) rows accepted .0, le-of-eq (sym (all (c .before .before))), c .before .if1 .left)
 
 returns-2 : tie.Need-returns-2
 returns-2 c =
-    let a = c .before .before .before .before .before .before .args in
-    let f = now (a .file) in
-    let xs = now (a .list) in
-    let no = not-built f _ _ (sym (c .before .before .before .check .ensures) ∙ ap counted (c .before .why .given .1)) (length xs) in
-    (sym (no .0), ap (λ (o : Outcome (List ℕ)). filled o xs) (sym (no .1)))
+    refused (now (c .before .before .before .before .before .before .args .list))
+    (not-built (now (c .before .before .before .before .before .before .args .file)) _ _ (sym (c .before .before .before .check .ensures) ∙ ap counted (c .before .why .given .1)) _)
 
 same-length : tie.Need-same-length
 same-length c = search needs
 
 returns-3 : tie.Need-returns-3
 returns-3 c =
-    let a = c .before .before .before .before .before .before .before .before .before .before .before .before .args in
-    let f = now (a .file) in
-    let xs = now (a .list) in
-    let n = c .before .before .before .before .before .before .before .rows .given .0 .0 in
-    let is = sym (c .before .before .before .before .before .before .before .before .before .check .ensures) ∙ ap counted (c .before .before .before .before .before .before .before .rows .given .1) in
-    let k = c .before .before .before .before .before .groups .ensures in
-    let e : ℕ = c .before .before .before .before .before .groups .result in
-    let room : e ≤ length xs = c .before .before .before .before .if1 .left in
-    let all : length (theIndex f) ≡ e = entries-counted f n is ∙ sym k in
-    let yes = index-is-built f n is (length xs) (omega (arith, k, room)) in (
-      ap (λ (m : ℕ). answer (record { entries = m; rows = n })) k ∙ sym (yes .0),
+    let f = now (c .before .before .before .before .before .before .before .before .before .before .before .before .args .file) in
+    let old = now (c .before .before .before .before .before .before .before .before .before .before .before .before .args .list) in
+    let entries = c .before .before .before .before .before .groups .result in
+    let whole = all (c .before .before .before .before .before) in
+    let (rows, builds, index, many) = index-is-built f _ (is (c .before .before .before .before .before .before .before)) (length old) (omega (arith, c .before .before .before .before .before .groups .ensures, c .before .before .before .before .if1 .left)) in (
+      ap₂ (λ (m n : ℕ). answer (record { entries = m; rows = n })) (sym (ap length index ∙ whole)) (sym many) ∙ ap (mapped builtOf) (sym builds),
       c .before .before .write-entries .ensures
-          ∙ ap (λ (t : List ℕ). t ++ drop e xs) (take-all e (theIndex f) (le-of-eq all))
-          ∙ ap (λ (m : ℕ). theIndex f ++ drop m xs) (sym all)
-          ∙ ap (λ (o : Outcome (List ℕ)). filled o xs) (sym (yes .1)),
+          ∙ ap (λ (t : List ℕ). t ++ drop entries old) (take-all entries (theIndex f) (le-of-eq whole))
+          ∙ ap (λ (m : ℕ). theIndex f ++ drop m old) (sym whole)
+          ∙ ap (λ (w : List ℕ). w ++ drop (length w) old) (sym index)
+          ∙ ap (λ (r : Outcome (List Row)). filled (mapped indexOf r) old) (sym builds),
     )
 
 pub build-index-spec : {M : Type 1} → statement M

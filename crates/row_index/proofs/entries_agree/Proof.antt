@@ -1,4 +1,5 @@
--- `row_index::entries_agree` meets its contract. The measure is what is left of the list; the invariant is `Comparing`.
+-- `row_index::entries_agree` meets its contract. The measure is what is left of the list; the invariant is `Comparing`, and the
+-- entry that the walk came to is `entry`.
 use Prim.Native.Nat.{_-_}
 use native.Mathlib.Omega.{arith}
 use mathlib.Core.Path.{sym, subst}
@@ -10,65 +11,61 @@ use Rattle.row_index.proofs.Building.{Comparing, nothing-compared, entr
 use Rattle.row_index.proofs.entries_agree.Statement.{statement}
 use Rattle.row_index.proofs.entries_agree.Tie as tie
 
-abbrev Inv-loop : tie.InvT-loop
-Inv-loop file list i₀ from₀ leaves₀ i from leaves = Comparing file list i from leaves
+abbrev Inv : tie.InvT-loop
+Inv file list i₀ from₀ leaves₀ i from leaves = Comparing file list i from leaves
 
-abbrev μ-loop : tie.MeasureT-loop
-μ-loop file list i₀ from₀ leaves₀ i from leaves = length list - i
+abbrev μ : tie.MeasureT-loop
+μ file list i₀ from₀ leaves₀ i from leaves = length list - i
 
-loop-holds : tie.Need-loop-holds Inv-loop μ-loop
+loop-holds : tie.Need-loop-holds Inv μ
 loop-holds c = nothing-compared (now (c .before .before .args .file)) (now (c .before .before .args .list))
 
-entry-from-requires : tie.Need-entry-from-requires Inv-loop μ-loop
+entry-from-requires : tie.Need-entry-from-requires Inv μ
 entry-from-requires c κs = search needs
 
-mul-if1 : tie.Need-mul-if1 Inv-loop μ-loop
+entry : (c : tie.After-entry-from Inv μ) → Entry (now (c .before .before .before .before .before .args .file)) (c .before .before .loop .i) (c .entry-from .result)
+entry c =
+    let f = now (c .before .before .before .before .before .args .file) in
+    let w = c .before .before .loop in
+    subst (Entry f (w .i)) (sym (c .entry-from .ensures .0))
+    (entry-found f (w .i) (w .from) (w .leaves) (w .inv .at) (omega (arith, c .before .before .before .before .before .pre, c .before .loop-test .taken)))
+
+mul-if1 : tie.Need-mul-if1 Inv μ
 mul-if1 c = search needs
 
-shared-slice-read-if1 : tie.Need-shared-slice-read-if1 Inv-loop μ-loop
+shared-slice-read-if1 : tie.Need-shared-slice-read-if1 Inv μ
 shared-slice-read-if1 c = omega arith
 
-cast-if1 : tie.Need-cast-if1 Inv-loop μ-loop
+cast-if1 : tie.Need-cast-if1 Inv μ
 cast-if1 c = omega (arith, c .shared-slice-known3 .given (c .before .before .before .loop .i))
 
-returns : tie.Need-returns Inv-loop μ-loop
+returns : tie.Need-returns Inv μ
 returns c =
-    let a = c .before .before .before .before .before .before .before .args in
-    let f = now (a .file) in
-    let xs = now (a .list) in
     let w = c .before .before .before .before .loop in
-    let e = subst (Entry f (w .i)) (sym (c .before .before .entry-from .ensures)) (entry-found f (w .i) (w .from) (w .leaves) (w .inv .at) (omega (arith, c .before .before .before .before .before .before .before .pre))) in
-    sym (entry-differs f xs (w .i) (w .from) (w .leaves) (c .before .before .entry-from .result) (w .inv) (c .before .before .before .before .before .before .before .pre) (c .before .before .before .loop-test .taken) e (c .if1 .taken))
+    sym (entry-differs (now (c .before .before .before .before .before .before .before .args .file)) (now (c .before .before .before .before .before .before .before .args .list)) (w .i) (w .from) (w .leaves) _ (w .inv) (c .before .before .before .before .before .before .before .pre) (c .before .before .before .loop-test .taken) (entry (c .before .before)) (c .if1 .taken))
 
-add-i : tie.Need-add-i Inv-loop μ-loop
+add-i : tie.Need-add-i Inv μ
 add-i c = omega arith
 
-loop-less : tie.Need-loop-less Inv-loop μ-loop
+loop-less : tie.Need-loop-less Inv μ
 loop-less c = omega arith
 
-loop-again : tie.Need-loop-again Inv-loop μ-loop
+loop-again : tie.Need-loop-again Inv μ
 loop-again c =
-    let a = c .before .before .before .before .before .before .before .args in
-    let f = now (a .file) in
-    let xs = now (a .list) in
     let w = c .before .before .before .before .loop in
-    let e = subst (Entry f (w .i)) (sym (c .before .before .entry-from .ensures)) (entry-found f (w .i) (w .from) (w .leaves) (w .inv .at) (omega (arith, c .before .before .before .before .before .before .before .pre))) in
-    entry-agrees f xs (w .i) (w .from) (w .leaves) (c .before .before .entry-from .result) (w .inv) (c .before .before .before .before .before .before .before .pre) (c .before .before .before .loop-test .taken) e (c .if1 .left)
+    entry-agrees (now (c .before .before .before .before .before .before .before .args .file)) (now (c .before .before .before .before .before .before .before .args .list)) (w .i) (w .from) (w .leaves) _ (w .inv) (c .before .before .before .before .before .before .before .pre) (c .before .before .before .loop-test .taken) (entry (c .before .before)) (c .if1 .left)
 
-returns-2 : tie.Need-returns-2 Inv-loop μ-loop
+returns-2 : tie.Need-returns-2 Inv μ
 returns-2 c =
-    let a = c .before .before .before .before .args in
-    let f = now (a .file) in
-    let xs = now (a .list) in
     let w = c .before .loop in
-    sym (all-compared f xs (w .i) (w .from) (w .leaves) (w .inv) (c .before .before .before .before .pre) (c .loop-test .left))
+    sym (all-compared (now (c .before .before .before .before .args .file)) (now (c .before .before .before .before .args .list)) (w .i) (w .from) (w .leaves) (w .inv) (c .before .before .before .before .pre) (c .loop-test .left))
 
 pub entries-agree-spec : {M : Type 1} → statement M
 entries-agree-spec =
     tie.close
     (tie.spec
-    Inv-loop
-    μ-loop
+    Inv
+    μ
     loop-holds
     entry-from-requires
     mul-if1

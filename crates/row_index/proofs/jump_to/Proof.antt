@@ -1,18 +1,18 @@
--- `row_index::jump_to` meets its contract: too big, no entry, or the walk from the entry.
+-- `row_index::jump_to` meets its contract: too big, no entry, an entry beyond the file, or the walk from the entry.
 use native.Mathlib.Omega.{arith}
 use Prim.Native.Nat.{_/_}
 use mathlib.Core.Path.{_∙_, sym}
 use denote.Ref.{now}
-use Rattle.row_index.proofs.JumpIsRead.{too-big-to-jump, no-entry, jumps-from-entry}
+use Rattle.row_index.proofs.JumpIsRead.{too-big-to-jump, no-entry, entry-beyond, jumps-from-entry}
 use borrow.Author.Needs.{needs}
 use Rattle.row_index.proofs.jump_to.Statement.{statement}
 use Rattle.row_index.proofs.jump_to.Tie as tie
 
 returns : tie.Need-returns
-returns c = sym (too-big-to-jump (now (c .before .before .before .args .file)) (now (c .before .before .before .args .list)) (c .before .before .before .args .k) (c .if1 .taken))
+returns c = sym (too-big-to-jump (now (c .before .before .before .args .file)) (now (c .before .before .before .args .list)) _ (c .if1 .taken))
 
 returns-2 : tie.Need-returns-2
-returns-2 c = sym (no-entry (now (c .before .before .before .before .args .file)) (now (c .before .before .before .before .args .list)) (c .before .before .before .before .args .k) (c .before .if1 .left) (c .if2 .taken))
+returns-2 c = sym (no-entry (now (c .before .before .before .before .args .file)) (now (c .before .before .before .before .args .list)) _ (c .before .if1 .left) (c .if2 .taken))
 
 mul-entry : tie.Need-mul-entry
 mul-entry c = search needs
@@ -23,11 +23,17 @@ shared-slice-read-entry c = search needs
 cast-entry : tie.Need-cast-entry
 cast-entry c = omega (arith, c .shared-slice-known3 .given (c .before .before .before .before .before .args .k / 16))
 
+returns-3 : tie.Need-returns-3
+returns-3 c =
+    sym (entry-beyond (now (c .before .before .before .before .before .before .args .file)) (now (c .before .before .before .before .before .before .args .list)) (c .before .before .before .before .before .before .args .k) (c .before .before .before .if1 .left) (c .before .before .if2 .left) (c .if3 .taken))
+
 value-from-requires : tie.Need-value-from-requires
 value-from-requires c κs = search needs
 
-returns-3 : tie.Need-returns-3
-returns-3 c = c .value-from .ensures ∙ sym (jumps-from-entry (now (c .before .before .before .before .before .before .args .file)) (now (c .before .before .before .before .before .before .args .list)) (c .before .before .before .before .before .before .args .k) (c .before .before .before .if1 .left) (c .before .before .if2 .left))
+returns-4 : tie.Need-returns-4
+returns-4 c =
+    c .value-from .ensures
+    ∙ sym (jumps-from-entry (now (c .before .before .before .before .before .before .before .args .file)) (now (c .before .before .before .before .before .before .before .args .list)) (c .before .before .before .before .before .before .before .args .k) (c .before .before .before .before .if1 .left) (c .before .before .before .if2 .left) (c .before .if3 .left))
 
 pub jump-to-spec : {M : Type 1} → statement M
 jump-to-spec =
@@ -38,5 +44,6 @@ jump-to-spec =
     mul-entry
     shared-slice-read-entry
     cast-entry
+    returns-3
     value-from-requires
-    returns-3)
+    returns-4)

@@ -1,530 +1,187 @@
 -- `sfdu::check_part` meets its contract. The measure of the call is the depth that is left, that of the loop the bytes that
--- are left; the invariant is `Sofar`, and each arm is one law of `Nested`.
-use Prim.Native.Nat.{_+_, _-_}
+-- are left; the invariant is `Sofar`, each arm is one law of `Nested`, and what an arm knows of its object is `leaf` or `group`.
+use Prim.Native.Nat.{ℕ, _+_, _-_, _<_}
 use native.Mathlib.Omega.{arith}
 use mathlib.Core.Path.{_∙_, sym, ap, subst}
+use mathlib.Core.Bool.{true, false}
 use lib.ListN.{length}
 use borrow.Author.Needs.{needs}
-use denote.Ref.{now}
-use Rattle.answer.specs.Counted.{counted}
-use Rattle.label.specs.Label.{told}
-use Rattle.sfdu.specs.Check.{Checked}
-use Rattle.sfdu.proofs.Nested.{Sofar, starts, no-bytes, deepest, ends, faulty, ends-inside, leaf-passed, group-passed, group-faulty, seen-at, part-length}
-use Prim.Native.Nat.{ℕ, _<_}
 use borrow.Fn.Kinds.{In}
 use borrow.Fn.PlainCycle.{Measures, is, falls, and}
-use Rattle.sfdu.proofs.check_part.Reads as check-part
-use Rattle.sfdu.proofs.check_part.Kinds as check-part-kinds
-use Rattle.sfdu.proofs.+check_part.Lts-check_part as check-part-lts
-use Rattle.label.proofs.is_opened.Reads as is-opened-reads
+use denote.Ref.{now}
+use Rattle.answer.specs.Counted.{counted}
+use Rattle.sfdu.specs.Private.{ObjectAt, Stands, Checked}
+use Rattle.sfdu.proofs.Nested.{Sofar, starts, no-bytes, deepest, ends, faulty, leaf-passed, group-passed, group-faulty, value-size}
+use Rattle.sfdu.proofs.check_part.Reads as reads
+use Rattle.sfdu.proofs.check_part.Kinds as kinds
+use Rattle.sfdu.proofs.+check_part.Lts-check_part as lts
 use Rattle.sfdu.proofs.object_at.Reads as object-at-reads
 use Rattle.sfdu.proofs.+check_part.{statement}
 use Rattle.sfdu.proofs.+check_part.Tie.{close}
 
-abbrev μ-check-part : Measures 1 check-part-kinds.ps ℕ
-μ-check-part κs a = a .1 .1 .0
+abbrev μ-call : Measures 1 kinds.ps ℕ
+μ-call κs a = a .1 .1 .0
 
-abbrev check-part-at : ℕ → In 1 check-part-kinds.ps
-check-part-at t =
-    and 1 check-part-kinds.ps (is 1 check-part-kinds.ps μ-check-part t) check-part.Pre
+abbrev Inv : lts.InvT-loop
+Inv part base left at₀ rows₀ at rows = Sofar part base left at rows
 
-abbrev check-part-below : ℕ → In 1 check-part-kinds.ps
-check-part-below t =
-    and 1 check-part-kinds.ps (falls 1 check-part-kinds.ps _<_ μ-check-part t) check-part.Pre
+abbrev μ : lts.MeasureT-loop
+μ part base left at₀ rows₀ at rows = length part - at
 
-abbrev check-part-Inv-loop : check-part-lts.InvT-loop
-check-part-Inv-loop part base left at₀ rows₀ at rows = Sofar part base left at rows
+module _ (t : ℕ) where
+  -- what a call supposes at measure t, and what a call inside it may suppose
+  abbrev Pre : In 1 kinds.ps
+  Pre = and 1 kinds.ps (is 1 kinds.ps μ-call t) reads.Pre
 
-abbrev check-part-μ-loop : check-part-lts.MeasureT-loop
-check-part-μ-loop part base left at₀ rows₀ at rows = length part - at
+  abbrev Below : In 1 kinds.ps
+  Below = and 1 kinds.ps (falls 1 kinds.ps _<_ μ-call t) reads.Pre
 
-check-part-returns : (t : ℕ) → check-part-lts.Need-returns (
-  object-at-reads.Asked,
-  object-at-reads.Learnt,
-  is-opened-reads.Asked,
-  is-opened-reads.Learnt,
-  check-part-below t,
-  check-part.Post,
-) (check-part-at t) check-part.Post check-part-Inv-loop check-part-μ-loop
-check-part-returns t c =
-    let a = c .before .before .args in
-    let P = now (a .part) in
-    no-bytes P (a .base) (a .left) (c .if1 .taken)
+  abbrev claims : lts.Claims
+  claims = (object-at-reads.Asked, object-at-reads.Learnt, Below, reads.Post)
 
-check-part-returns-2 : (t : ℕ) → check-part-lts.Need-returns-2 (
-  object-at-reads.Asked,
-  object-at-reads.Learnt,
-  is-opened-reads.Asked,
-  is-opened-reads.Learnt,
-  check-part-below t,
-  check-part.Post,
-) (check-part-at t) check-part.Post check-part-Inv-loop check-part-μ-loop
-check-part-returns-2 t c =
-    let a = c .before .before .before .args in
-    let P = now (a .part) in
-    deepest P (a .base) (a .left) (c .if2 .taken) (c .before .if1 .left)
+  returns : lts.Need-returns claims Pre reads.Post Inv μ
+  returns c = no-bytes (now (c .before .before .args .part)) _ _ (c .if1 .taken)
 
-check-part-loop-holds : (t : ℕ) → check-part-lts.Need-loop-holds (
-  object-at-reads.Asked,
-  object-at-reads.Learnt,
-  is-opened-reads.Asked,
-  is-opened-reads.Learnt,
-  check-part-below t,
-  check-part.Post,
-) (check-part-at t) check-part.Post check-part-Inv-loop check-part-μ-loop
-check-part-loop-holds t c =
-    let a = c .before .before .before .args in
-    let P = now (a .part) in
-    starts P (a .base) (a .left) (omega (arith, c .if2 .left))
+  returns-2 : lts.Need-returns-2 claims Pre reads.Post Inv μ
+  returns-2 c = deepest (now (c .before .before .before .args .part)) _ _ (c .if2 .taken) (c .before .if1 .left)
 
-check-part-add-place : (t : ℕ) → check-part-lts.Need-add-place (
-  object-at-reads.Asked,
-  object-at-reads.Learnt,
-  is-opened-reads.Asked,
-  is-opened-reads.Learnt,
-  check-part-below t,
-  check-part.Post,
-) (check-part-at t) check-part.Post check-part-Inv-loop check-part-μ-loop
-check-part-add-place t c =
-    let a = c .before .before .before .before .before .args in
-    let P = now (a .part) in
-    let w = c .before .loop in
-    omega (arith, c .before .before .before .before .before .pre .1)
+  loop-holds : lts.Need-loop-holds claims Pre reads.Post Inv μ
+  loop-holds c = starts (now (c .before .before .before .args .part)) _ _ (omega (arith, c .if2 .left))
 
-check-part-sub-object-at : (t : ℕ) → check-part-lts.Need-sub-object-at (
-  object-at-reads.Asked,
-  object-at-reads.Learnt,
-  is-opened-reads.Asked,
-  is-opened-reads.Learnt,
-  check-part-below t,
-  check-part.Post,
-) (check-part-at t) check-part.Post check-part-Inv-loop check-part-μ-loop
-check-part-sub-object-at t c =
-    let a = c .before .before .before .before .before .args in
-    let P = now (a .part) in
-    let w = c .before .loop in
-    omega arith
+  object-at-requires : lts.Need-object-at-requires claims Pre reads.Post Inv μ
+  object-at-requires c κs = c .loop-test .taken
 
-check-part-part-object-at-start : (t : ℕ) → check-part-lts.Need-part-object-at-start (
-  object-at-reads.Asked,
-  object-at-reads.Learnt,
-  is-opened-reads.Asked,
-  is-opened-reads.Learnt,
-  check-part-below t,
-  check-part.Post,
-) (check-part-at t) check-part.Post check-part-Inv-loop check-part-μ-loop
-check-part-part-object-at-start t c =
-    let a = c .before .before .before .before .before .args in
-    let P = now (a .part) in
-    let w = c .before .loop in
-    omega arith
+  -- ---- a fault
 
-check-part-part-object-at-end : (t : ℕ) → check-part-lts.Need-part-object-at-end (
-  object-at-reads.Asked,
-  object-at-reads.Learnt,
-  is-opened-reads.Asked,
-  is-opened-reads.Learnt,
-  check-part-below t,
-  check-part.Post,
-) (check-part-at t) check-part.Post check-part-Inv-loop check-part-μ-loop
-check-part-part-object-at-end t c =
-    let a = c .before .before .before .before .before .args in
-    let P = now (a .part) in
-    let w = c .before .loop in
-    omega arith
+  enum-known-why : lts.Need-enum-known-why claims Pre reads.Post Inv μ
+  enum-known-why c = search needs
 
-check-part-object-at-requires : (t : ℕ) → check-part-lts.Need-object-at-requires (
-  object-at-reads.Asked,
-  object-at-reads.Learnt,
-  is-opened-reads.Asked,
-  is-opened-reads.Learnt,
-  check-part-below t,
-  check-part.Post,
-) (check-part-at t) check-part.Post check-part-Inv-loop check-part-μ-loop
-check-part-object-at-requires t c κs = search needs
+  add-place : lts.Need-add-place claims Pre reads.Post Inv μ
+  add-place c = omega (arith, c .before .before .before .before .before .before .before .before .before .pre .1, c .before .before .before .before .loop-test .taken)
 
-check-part-enum-known-why : (t : ℕ) → check-part-lts.Need-enum-known-why (
-  object-at-reads.Asked,
-  object-at-reads.Learnt,
-  is-opened-reads.Asked,
-  is-opened-reads.Learnt,
-  check-part-below t,
-  check-part.Post,
-) (check-part-at t) check-part.Post check-part-Inv-loop check-part-μ-loop
-check-part-enum-known-why t c = search needs
+  returns-3 : lts.Need-returns-3 claims Pre reads.Post Inv μ
+  returns-3 c =
+      let P = now (c .before .before .before .before .before .before .before .before .before .args .part) in
+      let w = c .before .before .before .before .before .loop in
+      let (place, e) = subst (Stands P (w .at)) (c .before .why .given .1) (c .before .before .before .object-at .ensures) in
+      faulty P _ _ (w .at) (w .rows) (w .inv) (c .before .before .before .before .loop-test .taken) _ place e
 
-check-part-returns-3 : (t : ℕ) → check-part-lts.Need-returns-3 (
-  object-at-reads.Asked,
-  object-at-reads.Learnt,
-  is-opened-reads.Asked,
-  is-opened-reads.Learnt,
-  check-part-below t,
-  check-part.Post,
-) (check-part-at t) check-part.Post check-part-Inv-loop check-part-μ-loop
-check-part-returns-3 t c =
-    let a = c .before .before .before .before .before .before .before .before .before .before .args in
-    let P = now (a .part) in
-    let w = c .before .before .before .before .before .before .loop in
-    let e = seen-at P (w .at) (ap told (sym (c .before .why .given .1)) ∙ c .before .before .before .object-at .ensures) in
-    faulty P (a .base) (a .left) (w .at) (w .rows) (w .inv) (c .before .before .before .before .before .loop-test .taken) _ _ e
+  -- ---- a leaf
 
-check-part-enum-known-l : (t : ℕ) → check-part-lts.Need-enum-known-l (
-  object-at-reads.Asked,
-  object-at-reads.Learnt,
-  is-opened-reads.Asked,
-  is-opened-reads.Learnt,
-  check-part-below t,
-  check-part.Post,
-) (check-part-at t) check-part.Post check-part-Inv-loop check-part-μ-loop
-check-part-enum-known-l t c = search needs
+  enum-known-end : lts.Need-enum-known-end claims Pre reads.Post Inv μ
+  enum-known-end c = search needs
 
-check-part-add-body : (t : ℕ) → check-part-lts.Need-add-body (
-  object-at-reads.Asked,
-  object-at-reads.Learnt,
-  is-opened-reads.Asked,
-  is-opened-reads.Learnt,
-  check-part-below t,
-  check-part.Post,
-) (check-part-at t) check-part.Post check-part-Inv-loop check-part-μ-loop
-check-part-add-body t c =
-    let a = c .before .before .before .before .before .before .before .before .before .before .args in
-    let P = now (a .part) in
-    let w = c .before .before .before .before .before .before .loop in
-    let e = seen-at P (w .at) (ap told (sym (c .before .l .given .1)) ∙ c .before .before .before .object-at .ensures) in
-    let l = c .before .l .given .0 .0 in
-    let inside = ends-inside P (a .base) (a .left) (w .at) (w .rows) (w .inv) (c .before .before .before .before .before .loop-test .taken) l e in
-    omega (arith, c .before .before .before .before .before .before .before .before .before .before .pre .1)
+  leaf : (c : lts.After-known-told2 claims Pre reads.Post Inv μ)
+      → ObjectAt (now (c .before .before .before .before .before .before .before .before .before .args .part)) (c .before .before .before .before .before .loop .at) false (c .before .end .given .0 .0)
+  leaf c = subst (Stands (now (c .before .before .before .before .before .before .before .before .before .args .part)) (c .before .before .before .before .before .loop .at)) (c .before .end .given .1) (c .before .before .before .object-at .ensures)
 
-check-part-add-end : (t : ℕ) → check-part-lts.Need-add-end (
-  object-at-reads.Asked,
-  object-at-reads.Learnt,
-  is-opened-reads.Asked,
-  is-opened-reads.Learnt,
-  check-part-below t,
-  check-part.Post,
-) (check-part-at t) check-part.Post check-part-Inv-loop check-part-μ-loop
-check-part-add-end t c =
-    let a = c .before .before .before .before .before .before .before .before .before .before .before .args in
-    let P = now (a .part) in
-    let w = c .before .before .before .before .before .before .before .loop in
-    let e = seen-at P (w .at) (ap told (sym (c .before .before .l .given .1)) ∙ c .before .before .before .before .object-at .ensures) in
-    let l = c .before .before .l .given .0 .0 in
-    let inside = ends-inside P (a .base) (a .left) (w .at) (w .rows) (w .inv) (c .before .before .before .before .before .before .loop-test .taken) l e in
-    omega (arith, c .before .before .before .before .before .before .before .before .before .before .before .pre .1)
+  add-rows : lts.Need-add-rows claims Pre reads.Post Inv μ
+  add-rows c = omega (arith, c .before .before .before .before .before .before .before .before .before .pre .1, c .before .before .before .before .before .loop .inv .few, c .before .before .before .before .loop-test .taken)
 
-check-part-is-opened-requires : (t : ℕ) → check-part-lts.Need-is-opened-requires (
-  object-at-reads.Asked,
-  object-at-reads.Learnt,
-  is-opened-reads.Asked,
-  is-opened-reads.Learnt,
-  check-part-below t,
-  check-part.Post,
-) (check-part-at t) check-part.Post check-part-Inv-loop check-part-μ-loop
-check-part-is-opened-requires t c κs = search needs
+  loop-less : lts.Need-loop-less claims Pre reads.Post Inv μ
+  loop-less c = omega (arith, c .before .before .before .before .loop-test .taken, leaf c .ends, leaf c .inside)
 
-check-part-sub-check-part : (t : ℕ) → check-part-lts.Need-sub-check-part (
-  object-at-reads.Asked,
-  object-at-reads.Learnt,
-  is-opened-reads.Asked,
-  is-opened-reads.Learnt,
-  check-part-below t,
-  check-part.Post,
-) (check-part-at t) check-part.Post check-part-Inv-loop check-part-μ-loop
-check-part-sub-check-part t c =
-    let a = c .before .before .before .before .before .before .before .before .before .before .before .before .before .args in
-    let P = now (a .part) in
-    let w = c .before .before .before .before .before .before .before .before .before .loop in
-    let e = seen-at P (w .at) (ap told (sym (c .before .before .before .before .l .given .1)) ∙ c .before .before .before .before .before .before .object-at .ensures) in
-    let l = c .before .before .before .before .l .given .0 .0 in
-    let inside = ends-inside P (a .base) (a .left) (w .at) (w .rows) (w .inv) (c .before .before .before .before .before .before .before .before .loop-test .taken) l e in
-    omega (arith, c .before .before .before .before .before .before .before .before .before .before .before .before .before .pre .1)
+  loop-again : lts.Need-loop-again claims Pre reads.Post Inv μ
+  loop-again c =
+      let w = c .before .before .before .before .before .loop in
+      leaf-passed (now (c .before .before .before .before .before .before .before .before .before .args .part)) _ _ (w .at) (w .rows) (w .inv) (c .before .before .before .before .loop-test .taken) _ (leaf c)
 
-check-part-part-check-part-start : (t : ℕ) → check-part-lts.Need-part-check-part-start (
-  object-at-reads.Asked,
-  object-at-reads.Learnt,
-  is-opened-reads.Asked,
-  is-opened-reads.Learnt,
-  check-part-below t,
-  check-part.Post,
-) (check-part-at t) check-part.Post check-part-Inv-loop check-part-μ-loop
-check-part-part-check-part-start t c =
-    let a = c .before .before .before .before .before .before .before .before .before .before .before .before .before .args in
-    let P = now (a .part) in
-    let w = c .before .before .before .before .before .before .before .before .before .loop in
-    let e = seen-at P (w .at) (ap told (sym (c .before .before .before .before .l .given .1)) ∙ c .before .before .before .before .before .before .object-at .ensures) in
-    let l = c .before .before .before .before .l .given .0 .0 in
-    let inside = ends-inside P (a .base) (a .left) (w .at) (w .rows) (w .inv) (c .before .before .before .before .before .before .before .before .loop-test .taken) l e in
-    omega (arith, c .before .before .before .before .before .before .before .before .before .before .before .before .before .pre .1)
+  -- ---- an opened object
 
-check-part-part-check-part-end : (t : ℕ) → check-part-lts.Need-part-check-part-end (
-  object-at-reads.Asked,
-  object-at-reads.Learnt,
-  is-opened-reads.Asked,
-  is-opened-reads.Learnt,
-  check-part-below t,
-  check-part.Post,
-) (check-part-at t) check-part.Post check-part-Inv-loop check-part-μ-loop
-check-part-part-check-part-end t c =
-    let a = c .before .before .before .before .before .before .before .before .before .before .before .before .before .args in
-    let P = now (a .part) in
-    let w = c .before .before .before .before .before .before .before .before .before .loop in
-    let e = seen-at P (w .at) (ap told (sym (c .before .before .before .before .l .given .1)) ∙ c .before .before .before .before .before .before .object-at .ensures) in
-    let l = c .before .before .before .before .l .given .0 .0 in
-    let inside = ends-inside P (a .base) (a .left) (w .at) (w .rows) (w .inv) (c .before .before .before .before .before .before .before .before .loop-test .taken) l e in
-    omega (arith, c .before .before .before .before .before .before .before .before .before .before .before .before .before .pre .1)
+  enum-known-end-2 : lts.Need-enum-known-end-2 claims Pre reads.Post Inv μ
+  enum-known-end-2 c = search needs
 
-check-part-add-check-part : (t : ℕ) → check-part-lts.Need-add-check-part (
-  object-at-reads.Asked,
-  object-at-reads.Learnt,
-  is-opened-reads.Asked,
-  is-opened-reads.Learnt,
-  check-part-below t,
-  check-part.Post,
-) (check-part-at t) check-part.Post check-part-Inv-loop check-part-μ-loop
-check-part-add-check-part t c =
-    let a = c .before .before .before .before .before .before .before .before .before .before .before .before .before .before .args in
-    let P = now (a .part) in
-    let w = c .before .before .before .before .before .before .before .before .before .before .loop in
-    let e = seen-at P (w .at) (ap told (sym (c .before .before .before .before .before .l .given .1)) ∙ c .before .before .before .before .before .before .before .object-at .ensures) in
-    let l = c .before .before .before .before .before .l .given .0 .0 in
-    let inside = ends-inside P (a .base) (a .left) (w .at) (w .rows) (w .inv) (c .before .before .before .before .before .before .before .before .before .loop-test .taken) l e in
-    omega (arith, c .before .before .before .before .before .before .before .before .before .before .before .before .before .before .pre .1)
+  group : (c : lts.After-known-told3 claims Pre reads.Post Inv μ)
+      → ObjectAt (now (c .before .before .before .before .before .before .before .before .before .args .part)) (c .before .before .before .before .before .loop .at) true (c .before .end2 .given .0 .0)
+  group c = subst (Stands (now (c .before .before .before .before .before .before .before .before .before .args .part)) (c .before .before .before .before .before .loop .at)) (c .before .end2 .given .1) (c .before .before .before .object-at .ensures)
 
-check-part-sub-check-part-2 : (t : ℕ) → check-part-lts.Need-sub-check-part-2 (
-  object-at-reads.Asked,
-  object-at-reads.Learnt,
-  is-opened-reads.Asked,
-  is-opened-reads.Learnt,
-  check-part-below t,
-  check-part.Post,
-) (check-part-at t) check-part.Post check-part-Inv-loop check-part-μ-loop
-check-part-sub-check-part-2 t c =
-    let a = c .before .before .before .before .before .before .before .before .before .before .before .before .before .before .args in
-    let P = now (a .part) in
-    omega (arith, c .before .before .before .before .before .before .before .before .before .before .before .if2 .left)
+  add-body : lts.Need-add-body claims Pre reads.Post Inv μ
+  add-body c = omega (arith, c .before .before .before .before .before .before .before .before .before .pre .1, group c .ends, group c .inside)
 
-check-part-check-part-requires : (t : ℕ) → check-part-lts.Need-check-part-requires (
-  object-at-reads.Asked,
-  object-at-reads.Learnt,
-  is-opened-reads.Asked,
-  is-opened-reads.Learnt,
-  check-part-below t,
-  check-part.Post,
-) (check-part-at t) check-part.Post check-part-Inv-loop check-part-μ-loop
-check-part-check-part-requires t c κs =
-    let a = c .before .before .before .before .before .before .before .before .before .before .before .before .before .before .args in
-    let P = now (a .part) in
-    let w = c .before .before .before .before .before .before .before .before .before .before .loop in
-    let e = seen-at P (w .at) (ap told (sym (c .before .before .before .before .before .l .given .1)) ∙ c .before .before .before .before .before .before .before .object-at .ensures) in
-    let l = c .before .before .before .before .before .l .given .0 .0 in
-    let inside = ends-inside P (a .base) (a .left) (w .at) (w .rows) (w .inv) (c .before .before .before .before .before .before .before .before .before .loop-test .taken) l e in
-    (omega (arith, c .before .before .before .before .before .before .before .before .before .before .before .before .before .before .pre .0, c .before .before .before .before .before .before .before .before .before .before .before .if2 .left), omega (arith, c .before .before .before .before .before .before .before .before .before .before .before .before .before .before .pre .1, part-length P (w .at + 20) (l .length) inside))
+  add-place-2 : lts.Need-add-place-2 claims Pre reads.Post Inv μ
+  add-place-2 c = omega (arith, c .before .before .before .before .before .before .before .before .before .pre .1, group c .ends, group c .inside)
 
-check-part-enum-known-why-2 : (t : ℕ) → check-part-lts.Need-enum-known-why-2 (
-  object-at-reads.Asked,
-  object-at-reads.Learnt,
-  is-opened-reads.Asked,
-  is-opened-reads.Learnt,
-  check-part-below t,
-  check-part.Post,
-) (check-part-at t) check-part.Post check-part-Inv-loop check-part-μ-loop
-check-part-enum-known-why-2 t c = search needs
+  sub-check-part : lts.Need-sub-check-part claims Pre reads.Post Inv μ
+  sub-check-part c = omega (arith, group c .ends)
 
-check-part-returns-4 : (t : ℕ) → check-part-lts.Need-returns-4 (
-  object-at-reads.Asked,
-  object-at-reads.Learnt,
-  is-opened-reads.Asked,
-  is-opened-reads.Learnt,
-  check-part-below t,
-  check-part.Post,
-) (check-part-at t) check-part.Post check-part-Inv-loop check-part-μ-loop
-check-part-returns-4 t c =
-    let a = c .before .before .before .before .before .before .before .before .before .before .before .before .before .before .before .before .before .before .args in
-    let P = now (a .part) in
-    let w = c .before .before .before .before .before .before .before .before .before .before .before .before .before .before .loop in
-    let e = seen-at P (w .at) (ap told (sym (c .before .before .before .before .before .before .before .before .before .l .given .1)) ∙ c .before .before .before .before .before .before .before .before .before .before .before .object-at .ensures) in
-    let l = c .before .before .before .before .before .before .before .before .before .l .given .0 .0 in
-    let r = c .before .why2 .given in
-    group-faulty P (a .base) (a .left) (w .at) (w .rows) (w .inv) (c .before .before .before .before .before .before .before .before .before .before .before .before .before .loop-test .taken) l e
-    (sym (c .before .before .before .before .before .before .is-opened .ensures) ∙ c .before .before .before .before .before .if3 .taken) _ _
-    (subst (Checked _ _ _) (ap counted (r .1)) (c .before .before .before .check-part .ensures))
+  part-check-part-start : lts.Need-part-check-part-start claims Pre reads.Post Inv μ
+  part-check-part-start c = omega (arith, group c .ends, group c .inside)
 
-check-part-enum-known-n : (t : ℕ) → check-part-lts.Need-enum-known-n (
-  object-at-reads.Asked,
-  object-at-reads.Learnt,
-  is-opened-reads.Asked,
-  is-opened-reads.Learnt,
-  check-part-below t,
-  check-part.Post,
-) (check-part-at t) check-part.Post check-part-Inv-loop check-part-μ-loop
-check-part-enum-known-n t c = search needs
+  part-check-part-end : lts.Need-part-check-part-end claims Pre reads.Post Inv μ
+  part-check-part-end c = omega (arith, group c .ends, group c .inside)
 
-check-part-add-rows : (t : ℕ) → check-part-lts.Need-add-rows (
-  object-at-reads.Asked,
-  object-at-reads.Learnt,
-  is-opened-reads.Asked,
-  is-opened-reads.Learnt,
-  check-part-below t,
-  check-part.Post,
-) (check-part-at t) check-part.Post check-part-Inv-loop check-part-μ-loop
-check-part-add-rows t c =
-    let a = c .before .before .before .before .before .before .before .before .before .before .before .before .before .before .before .before .before .before .args in
-    let P = now (a .part) in
-    let w = c .before .before .before .before .before .before .before .before .before .before .before .before .before .before .loop in
-    let e = seen-at P (w .at) (ap told (sym (c .before .before .before .before .before .before .before .before .before .l .given .1)) ∙ c .before .before .before .before .before .before .before .before .before .before .before .object-at .ensures) in
-    let l = c .before .before .before .before .before .before .before .before .before .l .given .0 .0 in
-    let inside = ends-inside P (a .base) (a .left) (w .at) (w .rows) (w .inv) (c .before .before .before .before .before .before .before .before .before .before .before .before .before .loop-test .taken) l e in
-    let r = c .before .n .given in
-    let next = group-passed P (a .base) (a .left) (w .at) (w .rows) (w .inv) (c .before .before .before .before .before .before .before .before .before .before .before .before .before .loop-test .taken) l e
-    (sym (c .before .before .before .before .before .before .is-opened .ensures) ∙ c .before .before .before .before .before .if3 .taken) (r .0 .0)
-    (subst (Checked _ _ _) (ap counted (r .1)) (c .before .before .before .check-part .ensures)) in
-    omega (arith, next .few, c .before .before .before .before .before .before .before .before .before .before .before .before .before .before .before .before .before .before .pre .1)
+  sub-check-part-2 : lts.Need-sub-check-part-2 claims Pre reads.Post Inv μ
+  sub-check-part-2 c = omega (arith, c .before .before .before .before .before .before .before .if2 .left)
 
-check-part-loop-less : (t : ℕ) → check-part-lts.Need-loop-less (
-  object-at-reads.Asked,
-  object-at-reads.Learnt,
-  is-opened-reads.Asked,
-  is-opened-reads.Learnt,
-  check-part-below t,
-  check-part.Post,
-) (check-part-at t) check-part.Post check-part-Inv-loop check-part-μ-loop
-check-part-loop-less t c =
-    let a = c .before .before .before .before .before .before .before .before .before .before .before .before .before .before .before .before .before .before .args in
-    let P = now (a .part) in
-    let w = c .before .before .before .before .before .before .before .before .before .before .before .before .before .before .loop in
-    let e = seen-at P (w .at) (ap told (sym (c .before .before .before .before .before .before .before .before .before .l .given .1)) ∙ c .before .before .before .before .before .before .before .before .before .before .before .object-at .ensures) in
-    let l = c .before .before .before .before .before .before .before .before .before .l .given .0 .0 in
-    let inside = ends-inside P (a .base) (a .left) (w .at) (w .rows) (w .inv) (c .before .before .before .before .before .before .before .before .before .before .before .before .before .loop-test .taken) l e in
-    omega arith
+  check-part-requires : lts.Need-check-part-requires claims Pre reads.Post Inv μ
+  check-part-requires c κs =
+      let o = group (c .before) in
+      let w = c .before .before .before .before .before .before .loop in
+      let size = value-size (now (c .before .before .before .before .before .before .before .before .before .before .args .part)) _ _ (w .at) (w .rows) (w .inv) (c .before .before .before .before .before .loop-test .taken) _ _ o in
+      (omega (arith, c .before .before .before .before .before .before .before .before .before .before .pre .0, c .before .before .before .before .before .before .before .if2 .left), omega (arith, c .before .before .before .before .before .before .before .before .before .before .pre .1, size, o .ends, o .inside))
 
-check-part-loop-again : (t : ℕ) → check-part-lts.Need-loop-again (
-  object-at-reads.Asked,
-  object-at-reads.Learnt,
-  is-opened-reads.Asked,
-  is-opened-reads.Learnt,
-  check-part-below t,
-  check-part.Post,
-) (check-part-at t) check-part.Post check-part-Inv-loop check-part-μ-loop
-check-part-loop-again t c =
-    let a = c .before .before .before .before .before .before .before .before .before .before .before .before .before .before .before .before .before .before .args in
-    let P = now (a .part) in
-    let w = c .before .before .before .before .before .before .before .before .before .before .before .before .before .before .loop in
-    let e = seen-at P (w .at) (ap told (sym (c .before .before .before .before .before .before .before .before .before .l .given .1)) ∙ c .before .before .before .before .before .before .before .before .before .before .before .object-at .ensures) in
-    let l = c .before .before .before .before .before .before .before .before .before .l .given .0 .0 in
-    let inside = ends-inside P (a .base) (a .left) (w .at) (w .rows) (w .inv) (c .before .before .before .before .before .before .before .before .before .before .before .before .before .loop-test .taken) l e in
-    let r = c .before .n .given in
-    let next = group-passed P (a .base) (a .left) (w .at) (w .rows) (w .inv) (c .before .before .before .before .before .before .before .before .before .before .before .before .before .loop-test .taken) l e
-    (sym (c .before .before .before .before .before .before .is-opened .ensures) ∙ c .before .before .before .before .before .if3 .taken) (r .0 .0)
-    (subst (Checked _ _ _) (ap counted (r .1)) (c .before .before .before .check-part .ensures)) in
-    next
+  enum-known-why-2 : lts.Need-enum-known-why-2 claims Pre reads.Post Inv μ
+  enum-known-why-2 c = search needs
 
-check-part-add-rows-2 : (t : ℕ) → check-part-lts.Need-add-rows-2 (
-  object-at-reads.Asked,
-  object-at-reads.Learnt,
-  is-opened-reads.Asked,
-  is-opened-reads.Learnt,
-  check-part-below t,
-  check-part.Post,
-) (check-part-at t) check-part.Post check-part-Inv-loop check-part-μ-loop
-check-part-add-rows-2 t c =
-    let a = c .before .before .before .before .before .before .before .before .before .before .before .before .before .args in
-    let P = now (a .part) in
-    let w = c .before .before .before .before .before .before .before .before .before .loop in
-    let e = seen-at P (w .at) (ap told (sym (c .before .before .before .before .l .given .1)) ∙ c .before .before .before .before .before .before .object-at .ensures) in
-    let l = c .before .before .before .before .l .given .0 .0 in
-    let inside = ends-inside P (a .base) (a .left) (w .at) (w .rows) (w .inv) (c .before .before .before .before .before .before .before .before .loop-test .taken) l e in
-    let next = leaf-passed P (a .base) (a .left) (w .at) (w .rows) (w .inv) (c .before .before .before .before .before .before .before .before .loop-test .taken) l e (sym (c .before .is-opened .ensures) ∙ c .if3 .left) in
-    omega (arith, next .few, c .before .before .before .before .before .before .before .before .before .before .before .before .before .pre .1)
+  returns-4 : lts.Need-returns-4 claims Pre reads.Post Inv μ
+  returns-4 c =
+      let w = c .before .before .before .before .before .before .before .before .before .before .loop in
+      group-faulty (now (c .before .before .before .before .before .before .before .before .before .before .before .before .before .before .args .part)) _ _ (w .at) (w .rows) (w .inv) (c .before .before .before .before .before .before .before .before .before .loop-test .taken) _ (group (c .before .before .before .before .before)) _ _
+      (subst (Checked _ _ _) (ap counted (c .before .why2 .given .1)) (c .before .before .before .check-part .ensures))
 
-check-part-loop-less-2 : (t : ℕ) → check-part-lts.Need-loop-less-2 (
-  object-at-reads.Asked,
-  object-at-reads.Learnt,
-  is-opened-reads.Asked,
-  is-opened-reads.Learnt,
-  check-part-below t,
-  check-part.Post,
-) (check-part-at t) check-part.Post check-part-Inv-loop check-part-μ-loop
-check-part-loop-less-2 t c =
-    let a = c .before .before .before .before .before .before .before .before .before .before .before .before .before .args in
-    let P = now (a .part) in
-    let w = c .before .before .before .before .before .before .before .before .before .loop in
-    let e = seen-at P (w .at) (ap told (sym (c .before .before .before .before .l .given .1)) ∙ c .before .before .before .before .before .before .object-at .ensures) in
-    let l = c .before .before .before .before .l .given .0 .0 in
-    let inside = ends-inside P (a .base) (a .left) (w .at) (w .rows) (w .inv) (c .before .before .before .before .before .before .before .before .loop-test .taken) l e in
-    omega arith
+  enum-known-n : lts.Need-enum-known-n claims Pre reads.Post Inv μ
+  enum-known-n c = search needs
 
-check-part-loop-again-2 : (t : ℕ) → check-part-lts.Need-loop-again-2 (
-  object-at-reads.Asked,
-  object-at-reads.Learnt,
-  is-opened-reads.Asked,
-  is-opened-reads.Learnt,
-  check-part-below t,
-  check-part.Post,
-) (check-part-at t) check-part.Post check-part-Inv-loop check-part-μ-loop
-check-part-loop-again-2 t c =
-    let a = c .before .before .before .before .before .before .before .before .before .before .before .before .before .args in
-    let P = now (a .part) in
-    let w = c .before .before .before .before .before .before .before .before .before .loop in
-    let e = seen-at P (w .at) (ap told (sym (c .before .before .before .before .l .given .1)) ∙ c .before .before .before .before .before .before .object-at .ensures) in
-    let l = c .before .before .before .before .l .given .0 .0 in
-    let inside = ends-inside P (a .base) (a .left) (w .at) (w .rows) (w .inv) (c .before .before .before .before .before .before .before .before .loop-test .taken) l e in
-    let next = leaf-passed P (a .base) (a .left) (w .at) (w .rows) (w .inv) (c .before .before .before .before .before .before .before .before .loop-test .taken) l e (sym (c .before .is-opened .ensures) ∙ c .if3 .left) in
-    next
+  passed : (c : lts.After-known-told5 claims Pre reads.Post Inv μ)
+      → Sofar (now (c .before .before .before .before .before .before .before .before .before .before .before .before .before .before .args .part)) (c .before .before .before .before .before .before .before .before .before .before .before .before .before .before .args .base) (c .before .before .before .before .before .before .before .before .before .before .before .before .before .before .args .left) (c .before .before .before .before .before .before .end2 .given .0 .0) (c .before .before .before .before .before .before .before .before .before .before .loop .rows + c .before .n .given .0 .0)
+  passed c =
+      let w = c .before .before .before .before .before .before .before .before .before .before .loop in
+      group-passed (now (c .before .before .before .before .before .before .before .before .before .before .before .before .before .before .args .part)) _ _ (w .at) (w .rows) (w .inv) (c .before .before .before .before .before .before .before .before .before .loop-test .taken) _ (group (c .before .before .before .before .before)) _
+      (subst (Checked _ _ _) (ap counted (c .before .n .given .1)) (c .before .before .before .check-part .ensures))
 
-check-part-returns-5 : (t : ℕ) → check-part-lts.Need-returns-5 (
-  object-at-reads.Asked,
-  object-at-reads.Learnt,
-  is-opened-reads.Asked,
-  is-opened-reads.Learnt,
-  check-part-below t,
-  check-part.Post,
-) (check-part-at t) check-part.Post check-part-Inv-loop check-part-μ-loop
-check-part-returns-5 t c =
-    let a = c .before .before .before .before .before .args in
-    let P = now (a .part) in
-    let w = c .before .loop in
-    ends P (a .base) (a .left) (w .at) (w .rows) (w .inv) (c .loop-test .left)
+  add-rows-2 : lts.Need-add-rows-2 claims Pre reads.Post Inv μ
+  add-rows-2 c = omega (arith, c .before .before .before .before .before .before .before .before .before .before .before .before .before .before .pre .1, passed c .few, passed c .within)
+
+  loop-less-2 : lts.Need-loop-less-2 claims Pre reads.Post Inv μ
+  loop-less-2 c =
+      let o = group (c .before .before .before .before .before) in
+      omega (arith, c .before .before .before .before .before .before .before .before .before .loop-test .taken, o .ends, o .inside)
+
+  loop-again-2 : lts.Need-loop-again-2 claims Pre reads.Post Inv μ
+  loop-again-2 c = passed c
+
+  -- ---- the end of the part
+
+  returns-5 : lts.Need-returns-5 claims Pre reads.Post Inv μ
+  returns-5 c =
+      let w = c .before .loop in
+      ends (now (c .before .before .before .before .before .args .part)) _ _ (w .at) (w .rows) (w .inv) (c .loop-test .left)
 
 pub +check-part-spec : {M : Type 1} → statement M
-+check-part-spec = close μ-check-part λ t. check-part-lts.spec (
-  object-at-reads.Asked,
-  object-at-reads.Learnt,
-  is-opened-reads.Asked,
-  is-opened-reads.Learnt,
-  check-part-below t,
-  check-part.Post,
-)
-    (check-part-at t)
-    check-part.Post
-    check-part-Inv-loop
-    check-part-μ-loop
-    (check-part-returns t)
-    (check-part-returns-2 t)
-    (check-part-loop-holds t)
-    (check-part-add-place t)
-    (check-part-sub-object-at t)
-    (check-part-part-object-at-start t)
-    (check-part-part-object-at-end t)
-    (check-part-object-at-requires t)
-    (check-part-enum-known-why t)
-    (check-part-returns-3 t)
-    (check-part-enum-known-l t)
-    (check-part-add-body t)
-    (check-part-add-end t)
-    (check-part-is-opened-requires t)
-    (check-part-sub-check-part t)
-    (check-part-part-check-part-start t)
-    (check-part-part-check-part-end t)
-    (check-part-add-check-part t)
-    (check-part-sub-check-part-2 t)
-    (check-part-check-part-requires t)
-    (check-part-enum-known-why-2 t)
-    (check-part-returns-4 t)
-    (check-part-enum-known-n t)
-    (check-part-add-rows t)
-    (check-part-loop-less t)
-    (check-part-loop-again t)
-    (check-part-add-rows-2 t)
-    (check-part-loop-less-2 t)
-    (check-part-loop-again-2 t)
-    (check-part-returns-5 t)
++check-part-spec = close μ-call λ t. lts.spec (claims t) (Pre t) reads.Post Inv μ
+    (returns t)
+    (returns-2 t)
+    (loop-holds t)
+    (object-at-requires t)
+    (enum-known-why t)
+    (add-place t)
+    (returns-3 t)
+    (enum-known-end t)
+    (add-rows t)
+    (loop-less t)
+    (loop-again t)
+    (enum-known-end-2 t)
+    (add-body t)
+    (add-place-2 t)
+    (sub-check-part t)
+    (part-check-part-start t)
+    (part-check-part-end t)
+    (sub-check-part-2 t)
+    (check-part-requires t)
+    (enum-known-why-2 t)
+    (returns-4 t)
+    (enum-known-n t)
+    (add-rows-2 t)
+    (loop-less-2 t)
+    (loop-again-2 t)
+    (returns-5 t)

@@ -1,38 +1,119 @@
--- `sfdu::object_at` meets its contract: the label's reading, then whether its value fits.
-use mathlib.Core.Path.{_∙_, sym, ap}
+-- `sfdu::object_at` meets its contract: the label's reading, then whether its value fits, then its class.
+use Prim.Native.Nat.{ℕ, _+_, _-_, _≤_, _<_}
+use native.Mathlib.Omega.{arith}
+use mathlib.Core.Path.{_≡_, _∙_, sym, ap}
+use mathlib.Core.Bool.{Bool}
+use mathlib.Core.List.{List}
+use lib.ListN.{length, take, drop, length-drop}
 use denote.Ref.{now}
-use Rattle.label.specs.Label.{told}
+use Rattle.answer.specs.Outcome.{Outcome, answer, refuse}
+use Rattle.answer.proofs.Parts.{all-that-is-left}
+use Rattle.label.specs.declared.Label.{Label}
+use Rattle.label.specs.Label.{told, readLabel}
+use Rattle.label.specs.Opened.{isOpened}
 use Rattle.label.proofs.Reading.{read-has-20-bytes}
+use Rattle.sfdu.specs.Scan.{object}
+use Rattle.sfdu.specs.Private.{ObjectAt}
 use Rattle.sfdu.proofs.Steps.{value-too-long, takes, label-not-read}
 use borrow.Author.Needs.{needs}
 use Rattle.sfdu.proofs.object_at.Statement.{statement}
 use Rattle.sfdu.proofs.object_at.Tie as tie
 
+-- what was read of `&part[at..]` is what stands at that place of the part
+seen : (part : List ℕ) (at : ℕ) {o : Outcome Label} → o ≡ readLabel (take (length part - at) (drop at part)) → readLabel (drop at part) ≡ o
+seen part at e = ap readLabel (sym (all-that-is-left part at)) ∙ sym e
+
+module _ (part : List ℕ) (at : ℕ) (l : Label) (reads : readLabel (drop at part) ≡ answer l) where
+  long : at + 20 ≤ length part
+  long = omega (arith, length-drop at part, read-has-20-bytes (drop at part) l reads)
+
+  overruns : length part - (at + 20) < l .length → object (drop at part) ≡ refuse 4 0
+  overruns h = value-too-long (drop at part) l reads (omega (arith, length-drop at part))
+
+  stands : (opened : Bool) → l .length ≤ length part - (at + 20) → isOpened (l .class) ≡ opened → ObjectAt part at opened (at + 20 + l .length)
+  stands opened h class = record {
+    label = l;
+    is = takes (drop at part) l reads (omega (arith, length-drop at part));
+    class = class;
+    ends = omega arith;
+    inside = omega (arith, long);
+  }
+
+sub-read-label : tie.Need-sub-read-label
+sub-read-label c = search needs
+
+part-read-label-start : tie.Need-part-read-label-start
+part-read-label-start c = search needs
+
+part-read-label-end : tie.Need-part-read-label-end
+part-read-label-end c = search needs
+
 read-label-requires : tie.Need-read-label-requires
 read-label-requires c κs = search needs
-
-enum-known-l : tie.Need-enum-known-l
-enum-known-l c = search needs
-
-sub-left : tie.Need-sub-left
-sub-left c = read-has-20-bytes (now (c .before .before .before .before .before .args .s)) (c .before .l .given .0 .0) (sym (c .before .before .before .read-label .ensures) ∙ ap told (c .before .l .given .1))
-
-returns : tie.Need-returns
-returns c =
-    sym (value-too-long (now (c .before .before .before .before .before .before .before .args .s)) (c .before .before .before .l .given .0 .0) (sym (c .before .before .before .before .before .read-label .ensures) ∙ ap told (c .before .before .before .l .given .1)) (c .if1 .taken))
 
 enum-known-why : tie.Need-enum-known-why
 enum-known-why c = search needs
 
+enum-known-l : tie.Need-enum-known-l
+enum-known-l c = search needs
+
+add-body : tie.Need-add-body
+add-body c = search needs
+
+sub-room : tie.Need-sub-room
+sub-room c =
+    let a = c .before .before .before .before .before .before .args in
+    let l = c .before .l .given in
+    long (now (a .part)) (a .at) (l .0 .0) (seen (now (a .part)) (a .at) (ap told (sym (l .1)) ∙ c .before .before .before .read-label .ensures))
+
+returns : tie.Need-returns
+returns c =
+    let a = c .before .before .before .before .before .before .before .before .args in
+    let l = c .before .before .before .l .given in
+    let reads = seen (now (a .part)) (a .at) (ap told (sym (l .1)) ∙ c .before .before .before .before .before .read-label .ensures) in
+    (0, overruns (now (a .part)) (a .at) (l .0 .0) reads (c .if1 .taken))
+
+add-end : tie.Need-add-end
+add-end c = search needs
+
+is-opened-requires : tie.Need-is-opened-requires
+is-opened-requires c κs = search needs
+
 returns-2 : tie.Need-returns-2
 returns-2 c =
-    sym (takes (now (c .before .before .before .before .before .before .before .args .s)) (c .before .before .before .l .given .0 .0) (sym (c .before .before .before .before .before .read-label .ensures) ∙ ap told (c .before .before .before .l .given .1)) (c .if1 .left))
+    let a = c .before .before .before .before .before .before .before .before .before .before .before .args in
+    let l = c .before .before .before .before .before .before .l .given in
+    let reads = seen (now (a .part)) (a .at) (ap told (sym (l .1)) ∙ c .before .before .before .before .before .before .before .before .read-label .ensures) in
+    stands (now (a .part)) (a .at) (l .0 .0) reads _ (c .before .before .before .if1 .left) (sym (c .before .is-opened .ensures) ∙ c .if2 .taken)
 
 returns-3 : tie.Need-returns-3
 returns-3 c =
-    sym (label-not-read (now (c .before .before .before .before .before .args .s)) _ _ (sym (c .before .before .before .read-label .ensures) ∙ ap told (c .before .why .given .1)))
+    let a = c .before .before .before .before .before .before .args in
+    let why = c .before .why .given in
+    (_, label-not-read (drop (a .at) (now (a .part))) _ _ (seen (now (a .part)) (a .at) (ap told (sym (why .1)) ∙ c .before .before .before .read-label .ensures)))
+
+returns-4 : tie.Need-returns-4
+returns-4 c =
+    let a = c .before .before .before .before .before .before .before .before .before .before .before .args in
+    let l = c .before .before .before .before .before .before .l .given in
+    let reads = seen (now (a .part)) (a .at) (ap told (sym (l .1)) ∙ c .before .before .before .before .before .before .before .before .read-label .ensures) in
+    stands (now (a .part)) (a .at) (l .0 .0) reads _ (c .before .before .before .if1 .left) (sym (c .before .is-opened .ensures) ∙ c .if2 .left)
 
 pub object-at-spec : {M : Type 1} → statement M
 object-at-spec =
     tie.close
-    (tie.spec read-label-requires enum-known-l sub-left returns enum-known-why returns-2 returns-3)
+    (tie.spec
+    sub-read-label
+    part-read-label-start
+    part-read-label-end
+    read-label-requires
+    enum-known-why
+    enum-known-l
+    add-body
+    sub-room
+    returns
+    add-end
+    is-opened-requires
+    returns-2
+    returns-3
+    returns-4)

@@ -1,0 +1,59 @@
+-- Demand 2: "A file is accepted exactly when it divides, with no gap or overlap, into labelled objects or into waveform rows."
+-- One statement over every kind: what a division of a file is, that the rows are those of the division, that it is the only
+-- one, and that the bytes of a row are a leaf's value or a row's samples.
+use Prim.Native.Nat.{ℕ, _≤_}
+use mathlib.Core.Path.{_≡_}
+use mathlib.Core.Logic.{_↔_}
+use mathlib.Core.List.{List, map}
+use lib.ListN.{length}
+use Rattle.answer.specs.Outcome.{answer, mapped}
+use Rattle.answer.specs.Size.{largestFile}
+use Rattle.answer.specs.Window.{bytesAt}
+use Rattle.answer.specs.declared.Part.{Part}
+use Rattle.sfdu.specs.Row.{valueOf}
+use Rattle.sfdu.specs.Forest.{Forest, encode, Valid, leaves, values}
+use Rattle.waveform.specs.Rows as waveform
+use Rattle.reader.specs.Rows.{rowParts, checkFile}
+use Rattle.reader.specs.declared.Kind.{Kind}
+use Rattle.reader.specs.declared.Kind.the-variants.{Labelled, Waveform}
+
+-- what a file of this kind is divided into: a forest of labelled objects, or waveform rows
+abbrev pub Division : Kind → Type 0
+Division Labelled = Forest
+Division Waveform = List waveform.Row
+
+-- the bytes of a division, end to end
+abbrev pub together : (kind : Kind) → Division kind → List ℕ
+together Labelled F = encode F
+together Waveform rs = waveform.endToEnd rs
+
+-- each of its pieces is as the documents say: labels with their values at depths 1 to 8; 32 and 2,048 bytes
+abbrev pub Sound : (kind : Kind) → Division kind → Type 0
+Sound Labelled F = Valid 8 F
+Sound Waveform rs = waveform.AreRows rs
+
+-- its rows, each a place and a count
+abbrev pub rowsIn : (kind : Kind) → Division kind → List Part
+rowsIn Labelled F = map valueOf (leaves 1 (λ at. at) 0 F)
+rowsIn Waveform rs = waveform.sampleParts 0 (length rs)
+
+-- the bytes of its rows: the leaves' values, or the samples
+abbrev pub bytesIn : (kind : Kind) → Division kind → List (List ℕ)
+bytesIn Labelled F = values F
+bytesIn Waveform rs = map (λ (r : waveform.Row). r .samples) rs
+
+-- the file divides so, with no gap and no overlap
+pub record Divides (kind : Kind) (f : List ℕ) (d : Division kind) : Type 0 where
+  pub bytes : together kind d ≡ f
+  pub sound : Sound kind d
+
+pub record Demand2 (kind : Kind) (f : List ℕ) : Type 0 where
+  -- accepted with these rows: exactly where the file is not too big and divides into them
+  pub exactly : (rows : List Part)
+      → (rowParts kind f ≡ answer rows) ↔ ((length f ≤ largestFile) × ((d : Division kind) × Divides kind f d × (rowsIn kind d ≡ rows)))
+  -- the check answers how many rows there are
+  pub counts : checkFile kind f ≡ mapped length (rowParts kind f)
+  -- there is one division only
+  pub only-one : (d e : Division kind) → Divides kind f d → Divides kind f e → d ≡ e
+  -- the bytes of the file at each row are that row's bytes
+  pub values-are : (d : Division kind) → Divides kind f d → map (λ (p : Part). bytesAt f (p .place) (p .count)) (rowsIn kind d) ≡ bytesIn kind d

@@ -1,0 +1,25 @@
+-- Decimal digits in ASCII: `0` is 48, `9` 57. `decimal` is how digits are read as a number and `digitsOf` how a number of so
+-- many digits is written (document 01: "eight ASCII digits", in the label's length field; the numbers of the list program).
+use Prim.Native.Nat.{ℕ, zero, suc, _+_, _*_, _-_, _/_, _%_}
+use mathlib.Core.Bool.{Bool, true, false, _&&_}
+use mathlib.Core.List.{List, [], _∷_, _++_}
+use mathlib.Core.Option.{Option, none, some}
+use lib.Dec.{leb}
+
+-- one of `0` to `9`
+abbrev pub isDigit : ℕ → Bool
+isDigit b = leb 48 b && leb b 57
+
+abbrev pub given : Bool → Option ℕ → Option ℕ
+given true o = o
+given false o = none
+
+-- the number that n and then these digits write, most significant first; none where a byte is no digit
+abbrev pub decimal : ℕ → List ℕ → Option ℕ
+decimal n [] = some n
+decimal n (b ∷ bs) = given (isDigit b) (decimal (n * 10 + (b - 48)) bs)
+
+-- the last w decimal digits of n, as characters
+abbrev pub digitsOf : ℕ → ℕ → List ℕ
+digitsOf zero n = []
+digitsOf (suc w) n = digitsOf w (n / 10) ++ ((48 + n % 10) ∷ [])

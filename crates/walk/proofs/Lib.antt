@@ -1,0 +1,4 @@
+pub mod Walking
+pub mod WalkLoop
+pub mod WalkReads
+pub mod Finding

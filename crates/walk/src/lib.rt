@@ -1,0 +1,117 @@
+// The forward walk through a labelled file from any place, with no memory of depth, and reading a row
+// by it. Renders document 01, "The index and the jump" (how the jump walks) and the paragraph on
+// reading a row of a labelled file. Indexes and windows are left to the crates above.
+use answer::Count;
+use answer::Part;
+use answer::Refusal;
+use answer::Show;
+use label::Label;
+use label::LabelRead;
+ghost use mathlib.Core.Path.{_≡_};
+ghost use Rattle.answer.specs.Outcome.{andThen};
+ghost use Rattle.answer.specs.Window.{shown};
+ghost use Rattle.walk.specs.Walk.{walkedTo, walkFrom, stepAt};
+ghost use Rattle.walk.specs.Find.{findRow, valueAtLeaf};
+ghost use Rattle.walk.specs.Private.{stepped};
+
+// A leaf: the place of its label, and what the label says.
+pub struct Leaf {
+    pub place: usize,
+    pub label: Label,
+}
+
+// The leaf that a walk came to, or a refusal with its place.
+pub enum Walked {
+    Is(Leaf),
+    Refused(Refusal, usize),
+}
+
+// What a walk finds at a label: an opened object, or a leaf that ends inside the file.
+enum Step {
+    Open,
+    Closed(Label),
+    Fault(Refusal, usize),
+}
+
+// The label at the front of `s`, as a walk takes it.
+fn step_at(s: &[u8]) -> Step
+    ensures { λ r. ⌜ stepped r ≡ stepAt (now (s .entry)) ⌝ }
+{
+    match label::read_label(s) {
+        LabelRead::Refused(why, place) => Step::Fault(why, place),
+        LabelRead::Is(l) => {
+            if label::is_opened(l.class) {
+                return Step::Open;
+            }
+            let left = s.len() - label::LABEL;
+            if left < l.length {
+                return Step::Fault(Refusal::Overrun, 0);
+            }
+            Step::Closed(l)
+        }
+    }
+}
+
+// Walks forward from place `from`, passing so many leaves, to the next leaf: 14, 6 for a place past the
+// end, then as met. It reads no more of the file than it passes.
+pub fn walk_from(file: &[u8], from: usize, leaves: usize) -> Walked
+    ensures { λ r. ⌜ walkedTo r ≡ walkFrom (now (file .entry)) from leaves ⌝ }
+{
+    if answer::LARGEST_FILE < file.len() {
+        return Walked::Refused(Refusal::TooBig, 0);
+    }
+    if file.len() < from {
+        return Walked::Refused(Refusal::NoRow, 0);
+    }
+    let mut at = from;
+    let mut k = leaves;
+    while at < file.len() {
+        match step_at(&file[at..]) {
+            Step::Fault(why, _) => {
+                return Walked::Refused(why, at);
+            }
+            Step::Open => {
+                at = at + label::LABEL;
+            }
+            Step::Closed(l) => {
+                if k == 0 {
+                    return Walked::Is(Leaf {
+                        place: at,
+                        label: l,
+                    });
+                }
+                k = k - 1;
+                let body = at + label::LABEL;
+                at = body + l.length;
+            }
+        }
+    }
+    Walked::Refused(Refusal::NoRow, 0)
+}
+
+// The value of the leaf that a walk from place `from` comes to, after so many leaves.
+pub fn value_from(file: &[u8], from: usize, leaves: usize) -> Show
+    ensures { λ r. ⌜ shown r ≡ andThen (walkFrom (now (file .entry)) from leaves) valueAtLeaf ⌝ }
+{
+    match walk_from(file, from, leaves) {
+        Walked::Is(leaf) => {
+            let value = leaf.place + label::LABEL;
+            Show::Is(Part {
+                place: value,
+                count: leaf.label.length,
+            })
+        }
+        Walked::Refused(why, place) => Show::Refused(why, place),
+    }
+}
+
+// Row k of a labelled file, read from the first byte: the whole file is checked, and then its leaves
+// are counted.
+pub fn find_row(file: &[u8], k: usize) -> Show
+    ensures { λ r. ⌜ shown r ≡ findRow (now (file .entry)) k ⌝ }
+{
+    match sfdu::check(file) {
+        Count::Is(_) => value_from(file, 0, k),
+        Count::Refused(why, place) => Show::Refused(why, place),
+    }
+}
