@@ -90,17 +90,17 @@ fn entries_agree(file: &[u8], list: &[u32]) -> bool
     requires { ⌜ length (now list) ≡ length (theIndex (now file)) ⌝ }
     ensures { λ r. ⌜ r ≡ same (now (list .entry)) (theIndex (now (file .entry))) ⌝ }
 {
-    let mut i: usize = 0;
+    let mut done: usize = 0;
     let mut from: usize = 0;
     let mut leaves: usize = 0;
-    while i < list.len() {
+    while done < list.len() {
         let place = entry_from(file, from, leaves);
-        if list[i] as usize != place {
+        if list[done] as usize != place {
             return false;
         }
         from = place;
         leaves = GROUP;
-        i += 1;
+        done += 1;
     }
     true
 }

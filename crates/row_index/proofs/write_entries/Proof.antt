@@ -34,7 +34,8 @@ entry-from-requires : tie.Need-entry-from-requires Inv μ
 entry-from-requires c κs = search needs
 
 cast-list : tie.Need-cast-list Inv μ
-cast-list c = omega (arith, c .entry-from .ensures .1, c .before .before .before .before .before .pre .0)
+cast-list c =
+    omega (arith, c .entry-from .ensures .1, c .before .before .loop .inv .at .within, c .before .before .before .before .before .pre .0)
 
 mul-list : tie.Need-mul-list Inv μ
 mul-list c =

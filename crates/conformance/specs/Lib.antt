@@ -1,4 +1,0 @@
-pub mod Gathered
-pub mod Lent
-pub mod Floats
-pub mod Lines
