@@ -6,7 +6,7 @@ use mathlib.Core.List.{List}
 use lib.Seq.{sets-eq}
 use denote.Ref.{now}
 use Rattle.kept.specs.LittleEndian.{le}
-use Rattle.kept.specs.Put.{putAt}
+use Rattle.kept.specs.Private.{putAt}
 use Rattle.kept.proofs.Putting.{put-after-put}
 use borrow.Author.Needs.{needs}
 use Rattle.kept.proofs.put_head.Statement.{statement}
