@@ -1,5 +1,5 @@
--- A line read from a table of so many: of the lines from there on the first.
-use Prim.Native.Nat.{ℕ, suc, _<_}
+-- How many lines the table has, and that what is read at a place is, of the lines from there on, the first.
+use Prim.Native.Nat.{ℕ, _<_}
 use mathlib.Core.Path.{_≡_, refl, sym, ap}
 use mathlib.Core.List.{List, [], _∷_}
 use lib.ListN.{length, getD, take, drop}
