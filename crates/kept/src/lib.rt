@@ -21,18 +21,22 @@ fn wide(byte: u8) -> u32
     byte as u32
 }
 
+// Writes a number's lower 16 bits to the two bytes from place `at` on.
+fn put_two(number: u32, out: &mut [u8], at: usize)
+    requires { ⌜ at + 2 ≤ length (now out) ⌝ }
+    ensures { λ _. ⌜ now (out .exit) ≡ putAt (now (out .entry)) at (le 2 number) ⌝ }
+{
+    out[at] = (number % 256) as u8;
+    out[at + 1] = (number / 256 % 256) as u8;
+}
+
 // Writes a number to the four bytes from place `at` on.
 fn put_four(number: u32, out: &mut [u8], at: usize)
     requires { ⌜ at + 4 ≤ length (now out) ⌝ }
     ensures { λ _. ⌜ now (out .exit) ≡ putAt (now (out .entry)) at (le 4 number) ⌝ }
 {
-    let second = number / 256;
-    let third = second / 256;
-    let fourth = third / 256;
-    out[at] = (number % 256) as u8;
-    out[at + 1] = (second % 256) as u8;
-    out[at + 2] = (third % 256) as u8;
-    out[at + 3] = (fourth % 256) as u8;
+    put_two(number, out, at);
+    put_two(number / 65536, out, at + 2);
 }
 
 // The number in the two bytes from place `at` on.
@@ -56,13 +60,12 @@ fn four_at(bytes: &[u8], at: usize) -> u32
 }
 
 // Writes a record's length, how many bytes follow it, and its kind to the first six bytes.
-fn put_head(follows: u32, kind: u16, out: &mut [u8])
+fn put_head(follows: u32, kind: u32, out: &mut [u8])
     requires { ⌜ 6 ≤ length (now out) ⌝ }
     ensures { λ _. ⌜ now (out .exit) ≡ putAt (now (out .entry)) 0 (le 4 follows ++ le 2 kind) ⌝ }
 {
     put_four(follows, out, 0);
-    out[4] = (kind % 256) as u8;
-    out[5] = (kind / 256 % 256) as u8;
+    put_two(kind, out, 4);
 }
 
 // Writes the entries from place `first` on, four bytes each.
