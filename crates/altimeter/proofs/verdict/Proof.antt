@@ -21,12 +21,12 @@ Inv-loop element value i₀ i = limitsOf table element ≡ limitsOf (drop i tabl
 abbrev μ-loop : tie.MeasureT-loop
 μ-loop element value i₀ i = length table - i
 
--- the line that was read at `i`, which is one of the 95
+-- the line that was read at `i`
 read : (c : tie.After-line Inv-loop μ-loop) → c .line .given .0 .0 ∷ [] ≡ take 1 (drop (c .before .before .before .loop .i) table)
 read c = sym (ap lineOf (c .line .given .1)) ∙ c .before .before .line-at .ensures
 
-inside : (c : tie.After-line Inv-loop μ-loop) → c .before .before .before .loop .i < 95
-inside c = omega (arith, is-in-the-table table (c .before .before .before .loop .i) (c .line .given .0 .0) (read c), table-has-95-lines)
+is-one-of-95 : (c : tie.After-line Inv-loop μ-loop) → c .before .before .before .loop .i < 95
+is-one-of-95 c = omega (arith, is-in-the-table table (c .before .before .before .loop .i) (c .line .given .0 .0) (read c), table-has-95-lines)
 
 loop-holds : tie.Need-loop-holds Inv-loop μ-loop
 loop-holds c = refl
@@ -59,10 +59,10 @@ returns-2 c =
     c .judge .ensures ∙ sym (simp (at .loop .inv ∙ found, value))
 
 add-i : tie.Need-add-i Inv-loop μ-loop
-add-i c = omega (arith, inside (c .before .before))
+add-i c = omega (arith, is-one-of-95 (c .before .before))
 
 loop-less : tie.Need-loop-less Inv-loop μ-loop
-loop-less c = omega (arith, inside (c .before .before), table-has-95-lines)
+loop-less c = omega (arith, is-one-of-95 (c .before .before), table-has-95-lines)
 
 loop-again : tie.Need-loop-again Inv-loop μ-loop
 loop-again c =
