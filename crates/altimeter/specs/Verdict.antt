@@ -7,7 +7,8 @@ use lib.Dec.{eqb}
 use lib.IntN.{ℤ}
 use lib.Signed.{ltZ}
 use Rattle.answer.specs.Outcome.{Outcome, answer, refuse, andThen}
-use Rattle.altimeter.specs.Limits.{Limits, element, table}
+use Rattle.limits.specs.Limits.{table}
+use Rattle.limits.specs.declared.Limit.{Limit}
 
 pub data Side : Type 0 where
   below : Side
@@ -19,22 +20,19 @@ pickSide true tooHigh = below
 pickSide false true = above
 pickSide false false = inside
 
--- where a value stands between a minimum and a maximum: a limit itself is inside
-abbrev pub side : ℤ → ℤ → ℤ → Side
-side v lo hi = pickSide (ltZ v lo) (ltZ hi v)
+-- where a value stands against a line's minimum and maximum: a limit itself is inside
+abbrev pub side : ℤ → Limit → Side
+side v l = pickSide (ltZ v (l .1)) (ltZ (l .2) v)
 
-abbrev pub pickLine : (isIt : Bool) → Limits → Outcome Limits → Outcome Limits
-pickLine true e later = answer e
-pickLine false e later = later
+abbrev pub pickLine : (isIt : Bool) → Limit → Outcome Limit → Outcome Limit
+pickLine true l later = answer l
+pickLine false l later = later
 
 -- the first line of a table that has the element's number, or refusal 10
-abbrev pub limitsOf : List Limits → ℕ → Outcome Limits
+abbrev pub limitsOf : List Limit → ℕ → Outcome Limit
 limitsOf [] n = refuse 10 0
-limitsOf (element m lo hi ∷ es) n = pickLine (eqb m n) (element m lo hi) (limitsOf es n)
-
-abbrev pub sideOf : ℤ → Limits → Side
-sideOf v (element n lo hi) = side v lo hi
+limitsOf (l ∷ ls) n = pickLine (eqb (l .0) n) l (limitsOf ls n)
 
 -- the verdict on element n and value v
 abbrev pub verdictOf : ℕ → ℤ → Outcome Side
-verdictOf n v = andThen (limitsOf table n) (λ e. answer (sideOf v e))
+verdictOf n v = andThen (limitsOf table n) (λ l. answer (side v l))

@@ -10,7 +10,7 @@ use lib.Seq.{take-suc, drop-drop, length-take-le}
 use Rattle.answer.specs.Window.{bytesAt}
 use Rattle.kept.specs.LittleEndian.{le, leNumber, Below}
 use Rattle.kept.specs.Kept.{entryBytes, entriesOf}
-use Rattle.kept.specs.Put.{putAt}
+use Rattle.kept.specs.Private.{putAt}
 use Rattle.kept.proofs.LittleEndian.{number-of-bytes, bytes-of-number, below-in-the-front, below-in-the-rest}
 use Rattle.kept.proofs.Putting.{stored-is-put, put-keeps-the-length, put-after-put}
 

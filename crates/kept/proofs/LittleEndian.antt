@@ -2,7 +2,7 @@
 -- code sums it, and lists whose numbers are all below a limit.
 use Prim.Native.Nat.{ℕ, zero, suc, _+_, _*_, _/_, _^_, _≤_, _<_}
 use native.Mathlib.Nat.{pow-zero}
-use native.Mathlib.Numerals.{add-one, add-two, add-three}
+use native.Mathlib.Numerals.{add-one, add-two}
 use native.Mathlib.Omega.{arith}
 use mathlib.Core.Path.{_≡_, refl, _∙_, ap, ap₂}
 use mathlib.Core.List.{List, [], _∷_}
@@ -33,16 +33,10 @@ two-bytes s at h =
     ∙ rw add-one (omega arith)
 
 pub four-bytes : (s : List ℕ) (at : ℕ) → at + 4 ≤ length s
-    → leNumber (bytesAt s at 4) ≡ getD s at 0 + 256 * (getD s (at + 1) 0 + 256 * (getD s (at + 2) 0 + 256 * getD s (at + 3) 0))
+    → leNumber (bytesAt s at 4) ≡ leNumber (bytesAt s at 2) + 65536 * leNumber (bytesAt s (at + 2) 2)
 four-bytes s at h =
-    ap leNumber
-    (one-byte s at 3 (omega arith)
-    ∙ ap (λ (t : List ℕ). getD s at 0 ∷ t)
-    (one-byte s (suc at) 2 (omega arith)
-    ∙ ap (λ (t : List ℕ). getD s (suc at) 0 ∷ t)
-    (one-byte s (suc (suc at)) 1 (omega arith)
-    ∙ ap (λ (t : List ℕ). getD s (suc (suc at)) 0 ∷ t) (one-byte s (suc (suc (suc at))) 0 (omega arith)))))
-    ∙ rw (add-one, add-two, add-three) (omega arith)
+    ap leNumber (one-byte s at 3 (omega arith) ∙ ap (λ (t : List ℕ). getD s at 0 ∷ t) (one-byte s (suc at) 2 (omega arith)))
+    ∙ rw add-two (omega (arith, rw add-one at (two-bytes s at (omega arith))))
 
 -- numbers that are below a limit wherever they stand: what is known of a lent slice, by its type
 pub each-below : (m : ℕ) (xs : List ℕ) → ((i : ℕ) → i < length xs → getD xs i 0 < m) → Below m xs

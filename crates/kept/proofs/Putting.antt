@@ -6,7 +6,7 @@ use mathlib.Core.Path.{_≡_, _∙_, sym, ap, ap₂}
 use mathlib.Core.List.{List, [], _∷_, _++_, append-assoc, append-nil}
 use lib.ListN.{length, take, drop, set, length-append, length-drop, take-append-drop}
 use lib.Seq.{length-take-le, take-at, drop-at, drop-drop, sets-eq}
-use Rattle.kept.specs.Put.{putAt}
+use Rattle.kept.specs.Private.{putAt}
 
 -- one number stored
 pub stored-is-put : (old : List ℕ) (at x : ℕ) → at < length old → set old at x ≡ putAt old at (x ∷ [])

@@ -8,7 +8,7 @@ use borrow.Author.Tests.{le-leb, lt-leb}
 use Rattle.answer.specs.Outcome.{answer, refuse}
 use Rattle.kept.specs.LittleEndian.{le}
 use Rattle.kept.specs.Kept.{entryBytes, keptAs, keptForm, keepIndex}
-use Rattle.kept.specs.Put.{putAt}
+use Rattle.kept.specs.Private.{putAt}
 use Rattle.kept.proofs.Entries.{length-entry-bytes}
 use Rattle.kept.proofs.Putting.{put-to-the-front, put-after-put}
 

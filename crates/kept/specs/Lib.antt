@@ -1,3 +1,3 @@
 pub mod LittleEndian
 pub mod Kept
-pub mod Put
+pub mod Private

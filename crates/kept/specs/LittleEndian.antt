@@ -12,7 +12,8 @@ abbrev pub leNumber : List ℕ → ℕ
 leNumber [] = 0
 leNumber (b ∷ bs) = b + 256 * leNumber bs
 
--- each number of the list is below m: 256 for bytes, 2^32 for the entries of an index
+-- each number of the list is below m: 256 for bytes, 2^32 for entries; the theorems on reading back suppose it, and a lent
+-- slice has it by its type
 abbrev pub Below : ℕ → List ℕ → Type 0
 Below m [] = Unit
 Below m (x ∷ xs) = (x < m) × Below m xs

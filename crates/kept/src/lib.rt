@@ -12,7 +12,7 @@ ghost use Rattle.answer.specs.Filled.{Writes};
 ghost use Rattle.answer.specs.Window.{bytesAt};
 ghost use Rattle.kept.specs.LittleEndian.{le, leNumber};
 ghost use Rattle.kept.specs.Kept.{entryBytes, entriesOf, isKept, keepIndex, loadKept};
-ghost use Rattle.kept.specs.Put.{putAt};
+ghost use Rattle.kept.specs.Private.{putAt};
 
 // A byte as a number to calculate with.
 fn wide(byte: u8) -> u32
@@ -21,18 +21,32 @@ fn wide(byte: u8) -> u32
     byte as u32
 }
 
+// Writes a number's lower 16 bits to the two bytes from place `at` on.
+fn put_two(number: u32, out: &mut [u8], at: usize)
+    requires { ⌜ at + 2 ≤ length (now out) ⌝ }
+    ensures { λ _. ⌜ now (out .exit) ≡ putAt (now (out .entry)) at (le 2 number) ⌝ }
+{
+    out[at] = (number % 256) as u8;
+    out[at + 1] = (number / 256 % 256) as u8;
+}
+
 // Writes a number to the four bytes from place `at` on.
 fn put_four(number: u32, out: &mut [u8], at: usize)
     requires { ⌜ at + 4 ≤ length (now out) ⌝ }
     ensures { λ _. ⌜ now (out .exit) ≡ putAt (now (out .entry)) at (le 4 number) ⌝ }
 {
-    let second = number / 256;
-    let third = second / 256;
-    let fourth = third / 256;
-    out[at] = (number % 256) as u8;
-    out[at + 1] = (second % 256) as u8;
-    out[at + 2] = (third % 256) as u8;
-    out[at + 3] = (fourth % 256) as u8;
+    put_two(number, out, at);
+    put_two(number / 65536, out, at + 2);
+}
+
+// The number in the two bytes from place `at` on.
+fn two_at(bytes: &[u8], at: usize) -> u32
+    requires { ⌜ at + 2 ≤ length (now bytes) ⌝ }
+    ensures { λ r. ⌜ (r ≡ leNumber (bytesAt (now (bytes .entry)) at 2)) × (r < 65536) ⌝ }
+{
+    let low = wide(bytes[at]);
+    let high = wide(bytes[at + 1]);
+    low + 256 * high
 }
 
 // The number in the four bytes from place `at` on.
@@ -40,21 +54,18 @@ fn four_at(bytes: &[u8], at: usize) -> u32
     requires { ⌜ at + 4 ≤ length (now bytes) ⌝ }
     ensures { λ r. ⌜ r ≡ leNumber (bytesAt (now (bytes .entry)) at 4) ⌝ }
 {
-    let first = wide(bytes[at]);
-    let second = wide(bytes[at + 1]);
-    let third = wide(bytes[at + 2]);
-    let fourth = wide(bytes[at + 3]);
-    first + 256 * (second + 256 * (third + 256 * fourth))
+    let low = two_at(bytes, at);
+    let high = two_at(bytes, at + 2);
+    low + 65536 * high
 }
 
 // Writes a record's length, how many bytes follow it, and its kind to the first six bytes.
-fn put_head(follows: u32, kind: u16, out: &mut [u8])
+fn put_head(follows: u32, kind: u32, out: &mut [u8])
     requires { ⌜ 6 ≤ length (now out) ⌝ }
     ensures { λ _. ⌜ now (out .exit) ≡ putAt (now (out .entry)) 0 (le 4 follows ++ le 2 kind) ⌝ }
 {
     put_four(follows, out, 0);
-    out[4] = (kind % 256) as u8;
-    out[5] = (kind / 256 % 256) as u8;
+    put_two(kind, out, 4);
 }
 
 // Writes the entries from place `first` on, four bytes each.
@@ -101,9 +112,7 @@ fn is_kept(bytes: &[u8], kind: u32, first: usize) -> bool
     if follows != bytes.len() - 4 {
         return false;
     }
-    let low = wide(bytes[4]);
-    let high = wide(bytes[5]);
-    let found = low + 256 * high;
+    let found = two_at(bytes, 4);
     if found != kind {
         return false;
     }

@@ -29,6 +29,11 @@ read-fields b x t field digits h =
     ∙ ap (λ (y : ℕ). ofFields binary64 (leb (2 ^ 63) b) (suc x) y) digits
     ∙ read-normal (leb (2 ^ 63) b) x t h
 
+-- no pattern below those of the NaNs is a NaN's
+pub no-nan : (b : ℕ) → b % 2 ^ 63 ≤ 2047 * 2 ^ 52 → T (not (nanBits binary64 b))
+no-nan b small =
+    subst (λ (t : Bool). T (not t)) (sym (nanBits-above binary64 b ∙ le-ltb (2047 * 2 ^ 52) (b % 2 ^ 63) small)) tt
+
 -- 2^53 written with one exponent less
 carried : (s : Bool) (e : ℕ) → odd 53 s (2 ^ 52) e 180 ≡ odd 53 s (2 ^ 53) e 181
 carried s e = fewer ∙ sym (odd-shifted 52 s (2 ^ 52) e 180 1 (lit< tt))
@@ -37,11 +42,6 @@ carried s e = fewer ∙ sym (odd-shifted 52 s (2 ^ 52) e 180 1 (lit< tt))
     fewer = unfold odd trailingZeros in refl
 
 module _ (sign e q : ℕ) (one-bit : sign < 2) (eight-bits : e < 256) (low : 2 ^ 52 ≤ q) (high : q ≤ 2 ^ 53) where
-  pub no-nan : T (not (nanBits binary64 (joinedBits sign e q)))
-  no-nan =
-      let small : joinedBits sign e q % 2 ^ 63 ≤ 2047 * 2 ^ 52 = omega arith in
-      subst (λ (t : Bool). T (not t)) (sym (nanBits-above binary64 (joinedBits sign e q) ∙ le-ltb (2047 * 2 ^ 52) (joinedBits sign e q % 2 ^ 63) small)) tt
-
   sign-bit : leb (2 ^ 63) (joinedBits sign e q) ≡ eqb sign 1
   sign-bit = elim (eq-or-lt-of-le one) [
     | inl p ↦ le-leb (2 ^ 63) (joinedBits sign e q) (omega arith) ∙ sym (eq-eqb sign 1 p)

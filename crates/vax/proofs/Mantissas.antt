@@ -7,7 +7,8 @@ use mathlib.Core.List.{List}
 use lib.ListN.{length}
 use lib.Ieee.{Float, odd}
 use Rattle.vax.specs.Fields.{negative, exponent, fractionF, fractionD, mantissaF, mantissaD}
-use Rattle.vax.specs.Numbers.{byExponent, exactF, droppedD, joined, vaxF, vaxD}
+use Rattle.vax.specs.Numbers.{byExponent, exactF, droppedD, vaxF, vaxD}
+use Rattle.vax.specs.Private.{joined}
 use Rattle.vax.proofs.Scaled.{odd-shifted}
 use Rattle.vax.proofs.Cases.{long-enough}
 

@@ -2,3 +2,4 @@ pub mod Decoded
 pub mod Fields
 pub mod Numbers
 pub mod Exact
+pub mod Private

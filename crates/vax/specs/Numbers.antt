@@ -30,10 +30,6 @@ exactF s = odd 24 (negative s) (mantissaF s) (exponent s) 152
 abbrev pub droppedD : List ℕ → Float
 droppedD s = odd 56 (negative s) (droppedMantissaD s) (exponent s) 184
 
--- ±q·2^(e−181), for a mantissa q of 53 binary digits: what the code makes of either
-abbrev pub joined : ℕ → List ℕ → Float
-joined q s = odd 53 (negative s) q (exponent s) 181
-
 abbrev pub vaxF : List ℕ → Outcome Float
 vaxF s = reading 4 (exactF s) s
 

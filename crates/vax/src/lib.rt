@@ -9,8 +9,9 @@ ghost use lib.Dec.{eqb};
 ghost use lib.Ieee.{odd};
 ghost use Rattle.vax.specs.Decoded.{decoded};
 ghost use Rattle.vax.specs.Fields.{wordAt, fractionF, fractionD};
-ghost use Rattle.vax.specs.Numbers.{byExponent, joined, vaxF, vaxD};
+ghost use Rattle.vax.specs.Numbers.{byExponent, vaxF, vaxD};
 ghost use Rattle.vax.specs.Exact.{ExactF, ExactDroppedD};
+ghost use Rattle.vax.specs.Private.{joined};
 
 // A number's float, or a refusal with its place.
 pub enum Decode {

@@ -1,8 +1,10 @@
 -- `input::read_up_to` meets its contract. The loop's invariant: what was read is within the memory, which keeps its length;
 -- the measure is the room that is left.
 use Rattle.io.proofs.Counting.{counts}
-use Prim.Native.Nat.{_-_, _≤_}
+use Prim.Native.Nat.{ℕ, _-_, _≤_}
+use native.Mathlib.Omega.{arith}
 use mathlib.Core.Path.{_≡_}
+use mathlib.Core.Bool.{true, false}
 use lib.ListN.{length}
 use borrow.Author.Needs.{needs}
 use Rattle.input.proofs.read_up_to.Statement.{statement}
@@ -13,6 +15,10 @@ Inv-loop fd memory₀ done₀ memory done = (done ≤ length memory₀) × (leng
 
 abbrev μ-loop : tie.MeasureT-loop
 μ-loop fd memory₀ done₀ memory done = length memory₀ - done
+
+-- of a read that did not fail nothing more is promised
+not-failed : {X : Type 0} → false ≡ true → X
+not-failed e = let z : _≡_ {A = ℕ} 0 1 = cc in absurd (omega arith)
 
 loop-holds : tie.Need-loop-holds Inv-loop μ-loop
 loop-holds c = search needs
@@ -33,7 +39,7 @@ same-length : tie.Need-same-length Inv-loop μ-loop
 same-length c = search needs
 
 returns : tie.Need-returns Inv-loop μ-loop
-returns c = counts _ _ (search needs)
+returns c = (counts _ _ (search needs), (search needs, λ e. search needs))
 
 sub-count : tie.Need-sub-count Inv-loop μ-loop
 sub-count c = search needs
@@ -60,13 +66,13 @@ same-length-2 : tie.Need-same-length-2 Inv-loop μ-loop
 same-length-2 c = search needs
 
 returns-2 : tie.Need-returns-2 Inv-loop μ-loop
-returns-2 c = counts _ _ (search needs)
+returns-2 c = (counts _ _ (search needs), (search needs, not-failed))
 
 same-length-3 : tie.Need-same-length-3 Inv-loop μ-loop
 same-length-3 c = search needs
 
 returns-3 : tie.Need-returns-3 Inv-loop μ-loop
-returns-3 c = counts _ _ (search needs)
+returns-3 c = (counts _ _ (search needs), (search needs, not-failed))
 
 pub read-up-to-spec : {M : Type 1} → statement M
 read-up-to-spec =

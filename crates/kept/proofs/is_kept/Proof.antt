@@ -1,8 +1,6 @@
 -- `kept::is_kept` meets its contract: each test that fails decides, in the definition's order.
-use native.Mathlib.Omega.{arith}
 use mathlib.Core.Path.{_∙_, sym}
 use denote.Ref.{now}
-use Rattle.kept.proofs.LittleEndian.{two-bytes}
 use Rattle.kept.proofs.Reading.{too-few-bytes, wrong-length, wrong-kind, whole-entries-decide}
 use borrow.Author.Needs.{needs}
 use Rattle.kept.proofs.is_kept.Statement.{statement}
@@ -27,45 +25,26 @@ returns-2 c =
     let a = c .before .before .before .before .args in
     sym (wrong-length (a .kind) (a .first) (now (a .bytes)) (c .before .four-at .ensures) (c .if2 .taken))
 
-shared-slice-read-wide : tie.Need-shared-slice-read-wide
-shared-slice-read-wide c = search needs
-
-wide-requires : tie.Need-wide-requires
-wide-requires c κs = search needs
-
-shared-slice-read-wide-2 : tie.Need-shared-slice-read-wide-2
-shared-slice-read-wide-2 c = search needs
-
-wide-requires-2 : tie.Need-wide-requires-2
-wide-requires-2 c κs = search needs
-
-mul-found : tie.Need-mul-found
-mul-found c = search needs
-
-add-found : tie.Need-add-found
-add-found c = search needs
+two-at-requires : tie.Need-two-at-requires
+two-at-requires c κs = search needs
 
 returns-3 : tie.Need-returns-3
 returns-3 c =
-    let start = c .before .before .before .before .before .before .before .before .before in
-    let a = start .args in
-    let found = two-bytes (now (a .bytes)) 4 (omega (arith, start .pre)) in
-    sym (wrong-kind (a .kind) (a .first) (now (a .bytes)) (omega (arith, found)) (c .if3 .taken))
+    let a = c .before .before .before .before .before .before .args in
+    sym (wrong-kind (a .kind) (a .first) (now (a .bytes)) (c .before .two-at .ensures .0) (c .if3 .taken))
 
 sub-result : tie.Need-sub-result
 sub-result c = search needs
 
 returns-4 : tie.Need-returns-4
 returns-4 c =
-    let sized = c .before .before .before .before .before in
+    let sized = c .before .before in
     let long = sized .before .before in
-    let start = long .before .before in
-    let a = start .args in
-    let found = two-bytes (now (a .bytes)) 4 (omega (arith, start .pre)) in
+    let a = long .before .before .args in
     sym
     (whole-entries-decide (a .kind) (a .first) (now (a .bytes)) (long .if1 .left)
     (sym (sized .before .four-at .ensures) ∙ sized .if2 .left)
-    (omega (arith, found)))
+    (sym (c .before .two-at .ensures .0) ∙ c .if3 .left))
 
 pub is-kept-spec : {M : Type 1} → statement M
 is-kept-spec =
@@ -76,12 +55,7 @@ is-kept-spec =
     cast-follows
     sub-if2
     returns-2
-    shared-slice-read-wide
-    wide-requires
-    shared-slice-read-wide-2
-    wide-requires-2
-    mul-found
-    add-found
+    two-at-requires
     returns-3
     sub-result
     returns-4)

@@ -9,7 +9,7 @@ use denote.Ref.{now}
 use borrow.Author.Needs.{needs}
 use Rattle.answer.proofs.Writers.{refused-writes-nothing, written-to-the-front}
 use Rattle.kept.specs.Kept.{entryBytes}
-use Rattle.kept.specs.Put.{putAt}
+use Rattle.kept.specs.Private.{putAt}
 use Rattle.kept.proofs.Writing.{length-kept-form, too-many, too-small, written, head-and-entries}
 use Rattle.kept.proofs.keep.Statement.{statement}
 use Rattle.kept.proofs.keep.Tie as tie

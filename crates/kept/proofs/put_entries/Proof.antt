@@ -9,7 +9,7 @@ use denote.Ref.{now}
 use borrow.Author.Needs.{needs}
 use Rattle.kept.specs.LittleEndian.{le}
 use Rattle.kept.specs.Kept.{entryBytes}
-use Rattle.kept.specs.Put.{putAt}
+use Rattle.kept.specs.Private.{putAt}
 use Rattle.kept.proofs.Putting.{put-nothing}
 use Rattle.kept.proofs.Entries.{one-entry-put}
 use Rattle.kept.proofs.put_entries.Statement.{statement}

@@ -1,68 +1,40 @@
--- `kept::put_four` meets its contract: four stores one after the other put the four bytes of the number.
+-- `kept::put_four` meets its contract: the upper two bytes stand right after the lower two.
 use native.Mathlib.Omega.{arith}
-use native.Mathlib.Numerals.{add-one, add-two, add-three}
-use lib.ListN.{length-set}
-use lib.Seq.{sets-eq}
+use Prim.Native.Nat.{ℕ, _+_, _/_}
+use mathlib.Core.Path.{_≡_, refl, _∙_, ap}
+use mathlib.Core.List.{List, _++_}
 use denote.Ref.{now}
 use Rattle.kept.specs.LittleEndian.{le}
+use Rattle.kept.specs.Private.{putAt}
+use Rattle.kept.proofs.Putting.{put-after-put}
 use borrow.Author.Needs.{needs}
 use Rattle.kept.proofs.put_four.Statement.{statement}
 use Rattle.kept.proofs.put_four.Tie as tie
 
-cast-out : tie.Need-cast-out
-cast-out c = search needs
+put-two-requires : tie.Need-put-two-requires
+put-two-requires c κs = search needs
 
-slice-write-out : tie.Need-slice-write-out
-slice-write-out c = search needs
+add-put-two : tie.Need-add-put-two
+add-put-two c = search needs
 
-cast-out-2 : tie.Need-cast-out-2
-cast-out-2 c = search needs
-
-add-out : tie.Need-add-out
-add-out c = search needs
-
-slice-write-out-2 : tie.Need-slice-write-out-2
-slice-write-out-2 c = simp length-set (omega arith)
-
-cast-out-3 : tie.Need-cast-out-3
-cast-out-3 c = search needs
-
-add-out-2 : tie.Need-add-out-2
-add-out-2 c = search needs
-
-slice-write-out-3 : tie.Need-slice-write-out-3
-slice-write-out-3 c = simp length-set (omega arith)
-
-cast-out-4 : tie.Need-cast-out-4
-cast-out-4 c = search needs
-
-add-out-3 : tie.Need-add-out-3
-add-out-3 c = search needs
-
-slice-write-out-4 : tie.Need-slice-write-out-4
-slice-write-out-4 c = simp length-set (omega arith)
+put-two-requires-2 : tie.Need-put-two-requires-2
+put-two-requires-2 c κs = search needs
 
 same-length : tie.Need-same-length
 same-length c = search needs
 
 returns : tie.Need-returns
 returns c =
-    rw (add-one, add-two, add-three) (sets-eq (le 4 (c .args .number)) (now (c .args .out)) (c .args .at) (c .pre))
+    let start = c .before .before .before .before .before .before .before .before .before in
+    let a = start .args in
+    let old = now (a .out) in
+    let upper = le 2 (a .number / 65536) in
+    let same : a .number / 65536 ≡ a .number / 256 / 256 = omega arith in
+    c .before .before .put-two2 .ensures
+    ∙ ap (λ (s : List ℕ). putAt s (a .at + 2) upper) (c .before .before .before .before .before .before .put-two .ensures)
+    ∙ put-after-put old (a .at) (le 2 (a .number)) (omega arith) (a .at + 2) upper refl
+    ∙ ap (λ (n : ℕ). putAt old (a .at) (le 2 (a .number) ++ le 2 n)) same
 
 pub put-four-spec : {M : Type 1} → statement M
 put-four-spec =
-    tie.close
-    (tie.spec
-    cast-out
-    slice-write-out
-    cast-out-2
-    add-out
-    slice-write-out-2
-    cast-out-3
-    add-out-2
-    slice-write-out-3
-    cast-out-4
-    add-out-3
-    slice-write-out-4
-    same-length
-    returns)
+    tie.close (tie.spec put-two-requires add-put-two put-two-requires-2 same-length returns)

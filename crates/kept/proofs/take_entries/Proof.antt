@@ -9,7 +9,7 @@ use lib.ListN.{length, drop, set, length-set}
 use denote.Ref.{now}
 use borrow.Author.Needs.{needs}
 use Rattle.kept.specs.Kept.{entriesOf}
-use Rattle.kept.specs.Put.{putAt}
+use Rattle.kept.specs.Private.{putAt}
 use Rattle.kept.proofs.Entries.{one-entry-taken}
 use Rattle.kept.proofs.take_entries.Statement.{statement}
 use Rattle.kept.proofs.take_entries.Tie as tie

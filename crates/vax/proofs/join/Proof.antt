@@ -1,4 +1,5 @@
 -- `vax::join` meets its contract: the pattern is no NaN's, and it is read as the float.
+use native.Mathlib.Omega.{arith}
 use borrow.Author.Needs.{needs}
 use Rattle.vax.proofs.Joined.{no-nan, reads-back}
 use Rattle.vax.proofs.join.Statement.{statement}
@@ -20,7 +21,7 @@ add-result-2 : tie.Need-add-result-2
 add-result-2 c = search needs
 
 float-from-bits-result : tie.Need-float-from-bits-result
-float-from-bits-result c = no-nan (c .args .sign) (c .args .e) (c .args .q) (c .pre .0) (c .pre .1) (c .pre .2) (c .pre .3)
+float-from-bits-result c = no-nan _ (omega arith)
 
 returns : tie.Need-returns
 returns c = reads-back (c .args .sign) (c .args .e) (c .args .q) (c .pre .0) (c .pre .1) (c .pre .2) (c .pre .3)

@@ -8,7 +8,7 @@ use denote.Ref.{now}
 use borrow.Author.Needs.{needs}
 use Rattle.answer.specs.Outcome.{answer}
 use Rattle.vax.specs.Fields.{signOf, exponent}
-use Rattle.vax.specs.Numbers.{joined}
+use Rattle.vax.specs.Private.{joined}
 use Rattle.vax.proofs.Cases.{reserved, any-zero, not-zero}
 use Rattle.vax.proofs.number.Statement.{statement}
 use Rattle.vax.proofs.number.Tie as tie

@@ -4,20 +4,19 @@
 use Prim.Native.Nat.{ℕ}
 use mathlib.Core.List.{List, [], _∷_}
 use lib.IntN.{ℤ, pos, negℤ}
+use Rattle.limits.specs.declared.Limit.{Limit}
+use Rattle.limits.specs.declared.Line.{Line}
+use Rattle.limits.specs.declared.Line.the-variants.{Is, End}
 
--- a line: the n of 4.4.n and its limits
-pub data Limits : Type 0 where
-  element : (number : ℕ) → (minimum maximum : ℤ) → Limits
+-- a line: the n of 4.4.n, its minimum and its maximum
+abbrev pub element : ℕ → ℤ → ℤ → Limit
+element n lo hi = record { 0 = n; 1 = lo; 2 = hi }
 
 -- the number −n
 abbrev pub minus : ℕ → ℤ
 minus n = negℤ (pos n)
 
--- what is read past the end of the table, where no element stands
-abbrev pub none : Limits
-none = element 0 (pos 0) (pos 0)
-
-unfoldable pub table : List Limits
+unfoldable pub table : List Limit
 table =
     element 1 (pos 0) (pos 6_600) ∷  -- AGC_AltSDR_C
     element 2 (pos 0) (pos 6_600) ∷  -- AGC_AltSDR_K
@@ -115,3 +114,8 @@ table =
     element 190 (pos 0) (pos 15) ∷  -- Waveform_Scale_Lo
     element 191 (minus 18_000) (pos 18_000) ∷  -- Yaw_STR
     []
+
+-- what the answer enum `Line` stands for: the line that was read, or that the table has none there
+abbrev pub lineOf : Line → List Limit
+lineOf (Is l) = l ∷ []
+lineOf End = []
