@@ -13,7 +13,7 @@ use row_index::Verified;
 ghost use mathlib.Core.Path.{_≡_};
 ghost use mathlib.Core.List.{[]};
 ghost use lib.ListN.{length as size};
-ghost use Rattle.answer.specs.Filled.{amount, filled};
+ghost use Rattle.answer.specs.Filled.{filled};
 ghost use Rattle.label.specs.Label.{readLabel, writeLabel};
 ghost use Rattle.reader.specs.Rows.{checkFile};
 ghost use Rattle.reader.specs.Read.{readRow, jumpRow, rowFrom};
@@ -70,9 +70,9 @@ pub extern "C" fn crest_write_label(
     out: &mut [u8],
     written: &mut usize,
 ) -> Result
-    ensures { λ r. ⌜ r ≡ resultOf (amount (writeLabel (now (head .entry)) length (size (now (out .entry))))) ⌝ }
+    ensures { λ r. ⌜ r ≡ resultOf (writeLabel (now (head .entry)) length (size (now (out .entry)))) ⌝ }
     ensures { λ _. ⌜ now (out .exit) ≡ filled (writeLabel (now (head .entry)) length (size (now (out .entry)))) (now (out .entry)) ⌝ }
-    ensures { λ _. ⌜ now (written .exit) ≡ handed (λ n. n) (amount (writeLabel (now (head .entry)) length (size (now (out .entry))))) (now (written .entry)) ⌝ }
+    ensures { λ _. ⌜ now (written .exit) ≡ handed size (writeLabel (now (head .entry)) length (size (now (out .entry)))) (now (written .entry)) ⌝ }
 {
     hand::count(label::write_label(head, length, out), written)
 }
@@ -248,9 +248,9 @@ pub extern "C" fn crest_check_index(file: &[u8], list: &[u32]) -> Result
 // Writes the kept form of a list to the front of `out`.
 #[no_mangle]
 pub extern "C" fn crest_keep_index(list: &[u32], out: &mut [u8], written: &mut usize) -> Result
-    ensures { λ r. ⌜ r ≡ resultOf (amount (keepIndex (now (list .entry)) (size (now (out .entry))))) ⌝ }
+    ensures { λ r. ⌜ r ≡ resultOf (keepIndex (now (list .entry)) (size (now (out .entry)))) ⌝ }
     ensures { λ _. ⌜ now (out .exit) ≡ filled (keepIndex (now (list .entry)) (size (now (out .entry)))) (now (out .entry)) ⌝ }
-    ensures { λ _. ⌜ now (written .exit) ≡ handed (λ n. n) (amount (keepIndex (now (list .entry)) (size (now (out .entry))))) (now (written .entry)) ⌝ }
+    ensures { λ _. ⌜ now (written .exit) ≡ handed size (keepIndex (now (list .entry)) (size (now (out .entry)))) (now (written .entry)) ⌝ }
 {
     hand::count(kept::keep(list, out), written)
 }
@@ -258,9 +258,9 @@ pub extern "C" fn crest_keep_index(list: &[u32], out: &mut [u8], written: &mut u
 // Reads the list that these bytes keep to the front of `list`.
 #[no_mangle]
 pub extern "C" fn crest_load_kept(bytes: &[u8], list: &mut [u32], entries: &mut usize) -> Result
-    ensures { λ r. ⌜ r ≡ resultOf (amount (loadKept (now (bytes .entry)) (size (now (list .entry))))) ⌝ }
+    ensures { λ r. ⌜ r ≡ resultOf (loadKept (now (bytes .entry)) (size (now (list .entry)))) ⌝ }
     ensures { λ _. ⌜ now (list .exit) ≡ filled (loadKept (now (bytes .entry)) (size (now (list .entry)))) (now (list .entry)) ⌝ }
-    ensures { λ _. ⌜ now (entries .exit) ≡ handed (λ n. n) (amount (loadKept (now (bytes .entry)) (size (now (list .entry))))) (now (entries .entry)) ⌝ }
+    ensures { λ _. ⌜ now (entries .exit) ≡ handed size (loadKept (now (bytes .entry)) (size (now (list .entry)))) (now (entries .entry)) ⌝ }
 {
     hand::count(kept::load(bytes, list), entries)
 }
