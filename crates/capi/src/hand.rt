@@ -4,25 +4,19 @@ use crate::Result;
 use answer::Count;
 use answer::Refusal;
 use answer::Show;
-use label::Four;
 use vax::Decode;
 ghost use mathlib.Core.Path.{_≡_};
 ghost use Rattle.answer.specs.Refusal.{numberOf};
 ghost use Rattle.answer.specs.Counted.{counted};
 ghost use Rattle.answer.specs.Window.{shown};
 ghost use Rattle.vax.specs.Decoded.{decoded};
-ghost use Rattle.capi.specs.Handed.{done, refusedAs, resultOf, handed};
-ghost use Rattle.capi.specs.Parts.{fourBytes};
+ghost use Rattle.capi.specs.Handed.{refusedAs, resultOf, handed};
 
 // The result of a call that answered.
-pub fn answered() -> Result
-    ensures { λ r. ⌜ r ≡ done ⌝ }
-{
-    Result {
-        refusal: 0,
-        place: 0,
-    }
-}
+pub const DONE: Result = Result {
+    refusal: 0,
+    place: 0,
+};
 
 // The result of a call that refused.
 pub fn refused(why: Refusal, place: usize) -> Result
@@ -40,7 +34,7 @@ pub fn count(answer: Count, number: &mut usize) -> Result
     match answer {
         Count::Is(n) => {
             *number = n;
-            answered()
+            DONE
         }
         Count::Refused(why, place) => refused(why, place),
     }
@@ -56,7 +50,7 @@ pub fn part(answer: Show, place: &mut usize, bytes: &mut usize) -> Result
         Show::Is(p) => {
             *place = p.place;
             *bytes = p.count;
-            answered()
+            DONE
         }
         Show::Refused(why, at) => refused(why, at),
     }
@@ -70,15 +64,8 @@ pub fn float(answer: Decode, number: &mut f64) -> Result
     match answer {
         Decode::Is(x) => {
             *number = x;
-            answered()
+            DONE
         }
         Decode::Refused(why, place) => refused(why, place),
     }
-}
-
-// Four characters.
-pub fn four(characters: Four, bytes: &mut [u8; 4])
-    ensures { λ _. ⌜ now (bytes .exit) ≡ fourBytes characters ⌝ }
-{
-    *bytes = [characters.a, characters.b, characters.c, characters.d];
 }

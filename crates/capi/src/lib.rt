@@ -52,11 +52,11 @@ pub extern "C" fn crest_read_label(
         LabelRead::Is(l) => {
             let by = l.agency;
             let about = l.description;
-            hand::four(by, agency);
+            *agency = [by.a, by.b, by.c, by.d];
             *class = l.class;
-            hand::four(about, description);
+            *description = [about.a, about.b, about.c, about.d];
             *length = l.length;
-            hand::answered()
+            hand::DONE
         }
         LabelRead::Refused(why, place) => hand::refused(why, place),
     }
@@ -228,7 +228,7 @@ pub extern "C" fn crest_build_index(
         Build::Is(b) => {
             *entries = b.entries;
             *rows = b.rows;
-            hand::answered()
+            hand::DONE
         }
         Build::Refused(why, place) => hand::refused(why, place),
     }
@@ -240,7 +240,7 @@ pub extern "C" fn crest_check_index(file: &[u8], list: &[u32]) -> Result
     ensures { λ r. ⌜ r ≡ resultOf (checkIndex (now (file .entry)) (now (list .entry))) ⌝ }
 {
     match row_index::check_index(file, list) {
-        Verified::Right => hand::answered(),
+        Verified::Right => hand::DONE,
         Verified::Refused(why, place) => hand::refused(why, place),
     }
 }
@@ -309,7 +309,7 @@ pub extern "C" fn crest_opening(
             *orbit = o.orbit;
             *start = o.start;
             *stop = o.stop;
-            hand::answered()
+            hand::DONE
         }
         Open::Refused(why, place) => hand::refused(why, place),
     }
@@ -324,15 +324,15 @@ pub extern "C" fn crest_verdict(element: usize, value: i64, verdict: &mut usize)
     match altimeter::verdict(element, value) {
         Judgement::Below => {
             *verdict = 0;
-            hand::answered()
+            hand::DONE
         }
         Judgement::Inside => {
             *verdict = 1;
-            hand::answered()
+            hand::DONE
         }
         Judgement::Above => {
             *verdict = 2;
-            hand::answered()
+            hand::DONE
         }
         Judgement::Refused(why, place) => hand::refused(why, place),
     }

@@ -1,12 +1,11 @@
 use mathlib.Core.Path.{_∙_, sym, ap}
-use Rattle.capi.proofs.Handing.{answered-result, refused-result, answered-part, refused-part}
 use Rattle.row_index.specs.Index.{built}
+use Rattle.capi.proofs.Handing.{answered-result, answered-part, refused-result, refused-part}
 use borrow.Author.Needs.{needs}
 use Rattle.capi.proofs.crest_build_index.Statement.{statement}
 use Rattle.capi.proofs.crest_build_index.Tie as tie
 use Rattle.capi.proofs.crest_build_index.Reads as reads
 use Rattle.capi.proofs.crest_build_index.Lts as lts
-use Rattle.capi.proofs.hand.answered.Reads as answered-reads
 use Rattle.capi.proofs.hand.refused.Reads as refused-reads
 use Rattle.row_index.proofs.build_index.Reads as build-index-reads
 
@@ -17,10 +16,6 @@ build-index-requires c κs = search needs
 -- src/lib.rt:228:19
 enum-known-b : tie.Need-enum-known-b
 enum-known-b c = search needs
-
--- src/lib.rt:231:13
-answered-requires : tie.Need-answered-requires
-answered-requires c κs = search needs
 
 -- src/lib.rt:233:24
 enum-known-why : tie.Need-enum-known-why
@@ -37,9 +32,9 @@ same-length c = search needs
 -- src/lib.rt:215:1
 returns : tie.Need-returns
 returns c =
-    let called = c .before .before .before .before .before .before in
-    let e = sym (called .build-index .ensures .0) ∙ ap built (c .before .before .b .given .1) in
-    (c .answered .ensures ∙ answered-result e, (called .build-index .ensures .1, (answered-part (λ b. b .entries) _ e, answered-part (λ b. b .rows) _ e)))
+    let called = c .before .before .before .before .before in
+    let e = sym (called .build-index .ensures .0) ∙ ap built (c .before .b .given .1) in
+    (answered-result e, (called .build-index .ensures .1, (answered-part (λ b. b .entries) _ e, answered-part (λ b. b .rows) _ e)))
 
 -- src/lib.rt:215:1
 same-length-2 : tie.Need-same-length-2
@@ -58,7 +53,6 @@ crest-build-index-spec =
     (tie.spec
     build-index-requires
     enum-known-b
-    answered-requires
     enum-known-why
     refused-requires
     same-length

@@ -1,12 +1,11 @@
 use mathlib.Core.Path.{_∙_, sym, ap}
-use Rattle.capi.proofs.Handing.{answered-result, refused-result, answered-part, refused-part}
 use Rattle.row_index.specs.Index.{accepted}
+use Rattle.capi.proofs.Handing.{answered-result, answered-part, refused-result, refused-part}
 use borrow.Author.Needs.{needs}
 use Rattle.capi.proofs.crest_check_index.Statement.{statement}
 use Rattle.capi.proofs.crest_check_index.Tie as tie
 use Rattle.capi.proofs.crest_check_index.Reads as reads
 use Rattle.capi.proofs.crest_check_index.Lts as lts
-use Rattle.capi.proofs.hand.answered.Reads as answered-reads
 use Rattle.capi.proofs.hand.refused.Reads as refused-reads
 use Rattle.row_index.proofs.check_index.Reads as check-index-reads
 
@@ -17,10 +16,6 @@ check-index-requires c κs = search needs
 -- src/lib.rt:243:28
 enum-told : tie.Need-enum-told
 enum-told c = search needs
-
--- src/lib.rt:243:28
-answered-requires : tie.Need-answered-requires
-answered-requires c κs = search needs
 
 -- src/lib.rt:244:27
 enum-known-why : tie.Need-enum-known-why
@@ -33,8 +28,8 @@ refused-requires c κs = search needs
 -- src/lib.rt:238:1
 returns : tie.Need-returns
 returns c =
-    let e = sym (c .before .before .before .check-index .ensures) ∙ ap accepted (c .before .enum-told .given .1) in
-    c .answered .ensures ∙ answered-result e
+    let e = sym (c .before .before .check-index .ensures) ∙ ap accepted (c .enum-told .given .1) in
+    answered-result e
 
 -- src/lib.rt:238:1
 returns-2 : tie.Need-returns-2
@@ -45,11 +40,4 @@ returns-2 c =
 pub crest-check-index-spec : {M : Type 1} → statement M
 crest-check-index-spec =
     tie.close
-    (tie.spec
-    check-index-requires
-    enum-told
-    answered-requires
-    enum-known-why
-    refused-requires
-    returns
-    returns-2)
+    (tie.spec check-index-requires enum-told enum-known-why refused-requires returns returns-2)

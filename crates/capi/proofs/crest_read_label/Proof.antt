@@ -1,14 +1,12 @@
 use mathlib.Core.Path.{_∙_, sym, ap}
-use Rattle.capi.proofs.Handing.{answered-result, refused-result, answered-part, refused-part}
 use Rattle.label.specs.Label.{told}
 use Rattle.capi.specs.Parts.{fourBytes}
+use Rattle.capi.proofs.Handing.{answered-result, answered-part, refused-result, refused-part}
 use borrow.Author.Needs.{needs}
 use Rattle.capi.proofs.crest_read_label.Statement.{statement}
 use Rattle.capi.proofs.crest_read_label.Tie as tie
 use Rattle.capi.proofs.crest_read_label.Reads as reads
 use Rattle.capi.proofs.crest_read_label.Lts as lts
-use Rattle.capi.proofs.hand.answered.Reads as answered-reads
-use Rattle.capi.proofs.hand.four.Reads as four-reads
 use Rattle.capi.proofs.hand.refused.Reads as refused-reads
 use Rattle.label.proofs.read_label.Reads as read-label-reads
 
@@ -19,18 +17,6 @@ read-label-requires c κs = search needs
 -- src/lib.rt:52:23
 enum-known-l : tie.Need-enum-known-l
 enum-known-l c = search needs
-
--- src/lib.rt:55:13
-four-requires : tie.Need-four-requires
-four-requires c κs = search needs
-
--- src/lib.rt:57:13
-four-requires-2 : tie.Need-four-requires-2
-four-requires-2 c κs = search needs
-
--- src/lib.rt:59:13
-answered-requires : tie.Need-answered-requires
-answered-requires c κs = search needs
 
 -- src/lib.rt:61:28
 enum-known-why : tie.Need-enum-known-why
@@ -43,8 +29,8 @@ refused-requires c κs = search needs
 -- src/lib.rt:37:1
 returns : tie.Need-returns
 returns c =
-    let e = sym (c .before .before .before .before .before .before .before .before .before .before .read-label .ensures) ∙ ap told (c .before .before .before .before .before .before .before .before .l .given .1) in
-    (c .answered .ensures ∙ answered-result e, (c .before .before .before .four .ensures ∙ answered-part (λ l. fourBytes (l .agency)) _ e, (answered-part (λ l. l .class) _ e, (c .before .four2 .ensures ∙ answered-part (λ l. fourBytes (l .description)) _ e, answered-part (λ l. l .length) _ e))))
+    let e = sym (c .before .before .before .before .before .before .before .read-label .ensures) ∙ ap told (c .before .before .before .before .before .l .given .1) in
+    (answered-result e, (answered-part (λ l. fourBytes (l .agency)) _ e, (answered-part (λ l. l .class) _ e, (answered-part (λ l. fourBytes (l .description)) _ e, answered-part (λ l. l .length) _ e))))
 
 -- src/lib.rt:37:1
 returns-2 : tie.Need-returns-2
@@ -55,13 +41,4 @@ returns-2 c =
 pub crest-read-label-spec : {M : Type 1} → statement M
 crest-read-label-spec =
     tie.close
-    (tie.spec
-    read-label-requires
-    enum-known-l
-    four-requires
-    four-requires-2
-    answered-requires
-    enum-known-why
-    refused-requires
-    returns
-    returns-2)
+    (tie.spec read-label-requires enum-known-l enum-known-why refused-requires returns returns-2)

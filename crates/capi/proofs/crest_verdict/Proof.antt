@@ -1,18 +1,16 @@
 use mir.Syntax.{w64}
 use mir.ValLaws.{toZ-ofZ}
-use mathlib.Core.Path.{_≡_}
-use Rattle.altimeter.specs.Verdict.{verdictOf}
-use mathlib.Core.Path.{_∙_, sym, ap}
-use Rattle.capi.proofs.Handing.{answered-result, refused-result, answered-part, refused-part}
+use mathlib.Core.Path.{_≡_, _∙_, sym, ap}
 use Rattle.altimeter.specs.Judged.{judged}
+use Rattle.altimeter.specs.Verdict.{verdictOf}
 use Rattle.capi.specs.Parts.{sideNumber}
+use Rattle.capi.proofs.Handing.{answered-result, answered-part, refused-result, refused-part}
 use borrow.Author.Needs.{needs}
 use Rattle.capi.proofs.crest_verdict.Statement.{statement}
 use Rattle.capi.proofs.crest_verdict.Tie as tie
 use Rattle.capi.proofs.crest_verdict.Reads as reads
 use Rattle.capi.proofs.crest_verdict.Lts as lts
 use Rattle.altimeter.proofs.verdict.Reads as verdict-reads
-use Rattle.capi.proofs.hand.answered.Reads as answered-reads
 use Rattle.capi.proofs.hand.refused.Reads as refused-reads
 
 -- the verdict is that of the value itself, which fits its 64 bits
@@ -28,25 +26,13 @@ verdict-requires c κs = search needs
 enum-told : tie.Need-enum-told
 enum-told c = search needs
 
--- src/lib.rt:327:13
-answered-requires : tie.Need-answered-requires
-answered-requires c κs = search needs
-
 -- src/lib.rt:330:13
 enum-told-2 : tie.Need-enum-told-2
 enum-told-2 c = search needs
 
--- src/lib.rt:331:13
-answered-requires-2 : tie.Need-answered-requires-2
-answered-requires-2 c κs = search needs
-
 -- src/lib.rt:334:13
 enum-told-3 : tie.Need-enum-told-3
 enum-told-3 c = search needs
-
--- src/lib.rt:335:13
-answered-requires-3 : tie.Need-answered-requires-3
-answered-requires-3 c κs = search needs
 
 -- src/lib.rt:337:28
 enum-known-why : tie.Need-enum-known-why
@@ -59,20 +45,20 @@ refused-requires c κs = search needs
 -- src/lib.rt:319:1
 returns : tie.Need-returns
 returns c =
-    let e = sym (judged-so (c .before .before .before)) ∙ ap judged (c .before .enum-told .given .1) in
-    (c .answered .ensures ∙ answered-result e, answered-part sideNumber _ e)
+    let e = sym (judged-so (c .before .before)) ∙ ap judged (c .enum-told .given .1) in
+    (answered-result e, answered-part sideNumber _ e)
 
 -- src/lib.rt:319:1
 returns-2 : tie.Need-returns-2
 returns-2 c =
-    let e = sym (judged-so (c .before .before .before)) ∙ ap judged (c .before .enum-told2 .given .1) in
-    (c .answered2 .ensures ∙ answered-result e, answered-part sideNumber _ e)
+    let e = sym (judged-so (c .before .before)) ∙ ap judged (c .enum-told2 .given .1) in
+    (answered-result e, answered-part sideNumber _ e)
 
 -- src/lib.rt:319:1
 returns-3 : tie.Need-returns-3
 returns-3 c =
-    let e = sym (judged-so (c .before .before .before)) ∙ ap judged (c .before .enum-told3 .given .1) in
-    (c .answered3 .ensures ∙ answered-result e, answered-part sideNumber _ e)
+    let e = sym (judged-so (c .before .before)) ∙ ap judged (c .enum-told3 .given .1) in
+    (answered-result e, answered-part sideNumber _ e)
 
 -- src/lib.rt:319:1
 returns-4 : tie.Need-returns-4
@@ -86,11 +72,8 @@ crest-verdict-spec =
     (tie.spec
     verdict-requires
     enum-told
-    answered-requires
     enum-told-2
-    answered-requires-2
     enum-told-3
-    answered-requires-3
     enum-known-why
     refused-requires
     returns
