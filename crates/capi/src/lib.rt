@@ -1,7 +1,8 @@
-// The C boundary: one exported function for each call of the library, in the order of docs/CONFORMANCE.md.
-// Each takes its arguments apart, makes the call, and hands over: the refusal's number and place by value (0 and 0
-// for an answer), and the parts of an answer through pointers, which a refused call does not write. What is answered
-// is left to the crates below; the C declarations, and what a C caller owes, to the header.
+// The C boundary: one exported function for each call of docs/CONFORMANCE.md, in its order, with
+// `row_from` after the jumps. Renders document 01's "Every refusal carries its number and a place" as
+// the result, by value, and an answer's parts through pointers, which a refused call does not write.
+// What is answered is left to the crates below; the C declarations, and what a C caller owes, are left
+// to the header.
 mod hand;
 
 use altimeter::Judgement;

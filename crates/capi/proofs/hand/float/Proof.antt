@@ -1,36 +1,29 @@
+-- `capi::hand::float` meets its contract: by what was answered.
 use mathlib.Core.Path.{_∙_, ap}
 use Rattle.vax.specs.Decoded.{decoded}
 use Rattle.capi.proofs.Handing.{answered-result, answered-part, refused-result, refused-part}
 use borrow.Author.Needs.{needs}
 use Rattle.capi.proofs.hand.float.Statement.{statement}
 use Rattle.capi.proofs.hand.float.Tie as tie
-use Rattle.capi.proofs.hand.float.Reads as reads
-use Rattle.capi.proofs.hand.float.Lts as lts
-use Rattle.capi.proofs.hand.refused.Reads as refused-reads
 
--- src/hand.rt:64:20
 enum-known-answer : tie.Need-enum-known-answer
 enum-known-answer c = search needs
 
--- src/hand.rt:68:25
 enum-known-answer-2 : tie.Need-enum-known-answer-2
 enum-known-answer-2 c = search needs
 
--- src/hand.rt:68:40
 refused-requires : tie.Need-refused-requires
 refused-requires c κs = search needs
 
--- src/hand.rt:59:1
 returns : tie.Need-returns
 returns c =
     let e = ap decoded (c .before .answer .given .1) in
-    (answered-result e, answered-part (λ x. x) _ e)
+    (answered-result e, answered-part _ _ e)
 
--- src/hand.rt:59:1
 returns-2 : tie.Need-returns-2
 returns-2 c =
     let e = ap decoded (c .before .before .answer2 .given .1) in
-    (c .refused .ensures ∙ refused-result e, refused-part (λ x. x) _ e)
+    (c .refused .ensures ∙ refused-result e, refused-part _ _ e)
 
 pub float-spec : {M : Type 1} → statement M
 float-spec =
