@@ -12,7 +12,7 @@ use Rattle.reader.specs.Rows.{checkFile}
 use Rattle.reader.specs.Read.{findRow, jumpTo, readRow, jumpRow}
 use Rattle.text.specs.Decimal.{decimalText}
 use Rattle.listing.specs.Listing.{rowsListed, listingOf}
-use Rattle.altimeter.specs.Limits.{table}
+use Rattle.limits.specs.Limits.{table}
 use Rattle.cases.specs.Table.{Table}
 use Rattle.cases.proofs.Row31.{row-31, jump-to-row-31, row-31-at-1024, jump-to-row-31-at-1024}
 

@@ -116,7 +116,7 @@ module _ (part : List ℕ) (base left : ℕ) where
             size : o .label .length ≡ end - (at + 20)
             size = omega (arith, o .ends)
 
-        pub value-size : length value ≡ end - (at + 20)
+        value-size : length value ≡ end - (at + 20)
         value-size = length-take-le (end - (at + 20)) (drop (at + 20) part) (omega (arith, o .inside, length-drop (at + 20) part))
 
         -- what follows the object, once its rows are known

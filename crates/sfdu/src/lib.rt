@@ -65,9 +65,9 @@ fn check_part(part: &[u8], base: usize, left: usize) -> Count
                 let place = base + at;
                 return Count::Refused(why, place);
             }
-            Object::Leaf(end) => {
+            Object::Leaf(next) => {
                 rows = rows + 1;
-                at = end;
+                at = next;
             }
             Object::Group(end) => {
                 let body = at + label::LABEL;

@@ -73,16 +73,16 @@ pub fn walk_from(file: &[u8], from: usize, leaves: usize) -> Walked
             Step::Open => {
                 at = at + label::LABEL;
             }
-            Step::Closed(l) => {
+            Step::Closed(found) => {
                 if k == 0 {
                     return Walked::Is(Leaf {
                         place: at,
-                        label: l,
+                        label: found,
                     });
                 }
                 k = k - 1;
                 let body = at + label::LABEL;
-                at = body + l.length;
+                at = body + found.length;
             }
         }
     }

@@ -18,7 +18,7 @@ jump-to-requires c κs = search needs
 window-in-requires : tie.Need-window-in-requires
 window-in-requires c κs =
     let a = c .before .before .before .args in
-    λ p e. omega (arith, jumped-inside (a .kind) (now (a .file)) (now (a .list)) (a .k) p (sym (c .jump-to .ensures) ∙ e), c .before .before .before .good .1 .1 .0 .1)
+    λ p e. omega (arith, jumped-inside _ _ _ _ p (sym (c .jump-to .ensures) ∙ e), c .before .before .before .good .1 .1 .0 .1)
 
 returns : tie.Need-returns
 unfolding jumpRow

@@ -18,7 +18,7 @@ find-row-requires c κs = search needs
 window-in-requires : tie.Need-window-in-requires
 window-in-requires c κs =
     let a = c .before .before .args in
-    λ p e. omega (arith, row-inside (a .kind) (now (a .file)) (a .k) p (sym (c .find-row .ensures) ∙ e), c .before .before .good .1 .1 .0 .1)
+    λ p e. omega (arith, row-inside _ _ _ p (sym (c .find-row .ensures) ∙ e), c .before .before .good .1 .1 .0 .1)
 
 returns : tie.Need-returns
 unfolding readRow

@@ -39,7 +39,7 @@ cast-list c =
 
 mul-list : tie.Need-mul-list Inv μ
 mul-list c =
-    scaled-fits (c .before .before .loop .i) (length (now (c .before .before .before .before .before .args .list))) 4 (omega (arith, c .before .before .before .before .before .pre .2, c .before .loop-test .taken)) (c .before .before .before .before .before .good .1 .1 .0 .1)
+    scaled-fits (c .before .before .loop .i) (length (now (c .before .before .before .before .before .args .list))) 4 (omega (arith, long (c .before .before), c .before .before .before .before .before .pre .2, c .before .loop-test .taken)) (c .before .before .before .before .before .good .1 .1 .0 .1)
 
 slice-write-list : tie.Need-slice-write-list Inv μ
 slice-write-list c = omega (arith, long (c .before .before), c .before .before .before .before .before .pre .2, c .before .loop-test .taken)

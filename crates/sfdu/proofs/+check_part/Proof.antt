@@ -11,7 +11,7 @@ use borrow.Fn.PlainCycle.{Measures, is, falls, and}
 use denote.Ref.{now}
 use Rattle.answer.specs.Counted.{counted}
 use Rattle.sfdu.specs.Private.{ObjectAt, Stands, Checked}
-use Rattle.sfdu.proofs.Nested.{Sofar, starts, no-bytes, deepest, ends, faulty, leaf-passed, group-passed, group-faulty, value-size}
+use Rattle.sfdu.proofs.Nested.{Sofar, starts, no-bytes, deepest, ends, faulty, leaf-passed, group-passed, group-faulty}
 use Rattle.sfdu.proofs.check_part.Reads as reads
 use Rattle.sfdu.proofs.check_part.Kinds as kinds
 use Rattle.sfdu.proofs.+check_part.Lts-check_part as lts
@@ -68,12 +68,12 @@ module _ (t : ℕ) where
 
   -- ---- a leaf
 
-  enum-known-end : lts.Need-enum-known-end claims Pre reads.Post Inv μ
-  enum-known-end c = search needs
+  enum-known-next : lts.Need-enum-known-next claims Pre reads.Post Inv μ
+  enum-known-next c = search needs
 
   leaf : (c : lts.After-known-told2 claims Pre reads.Post Inv μ)
-      → ObjectAt (now (c .before .before .before .before .before .before .before .before .before .args .part)) (c .before .before .before .before .before .loop .at) false (c .before .end .given .0 .0)
-  leaf c = subst (Stands (now (c .before .before .before .before .before .before .before .before .before .args .part)) (c .before .before .before .before .before .loop .at)) (c .before .end .given .1) (c .before .before .before .object-at .ensures)
+      → ObjectAt (now (c .before .before .before .before .before .before .before .before .before .args .part)) (c .before .before .before .before .before .loop .at) false (c .before .next .given .0 .0)
+  leaf c = subst (Stands (now (c .before .before .before .before .before .before .before .before .before .args .part)) (c .before .before .before .before .before .loop .at)) (c .before .next .given .1) (c .before .before .before .object-at .ensures)
 
   add-rows : lts.Need-add-rows claims Pre reads.Post Inv μ
   add-rows c = omega (arith, c .before .before .before .before .before .before .before .before .before .pre .1, c .before .before .before .before .before .loop .inv .few, c .before .before .before .before .loop-test .taken)
@@ -88,12 +88,12 @@ module _ (t : ℕ) where
 
   -- ---- an opened object
 
-  enum-known-end-2 : lts.Need-enum-known-end-2 claims Pre reads.Post Inv μ
-  enum-known-end-2 c = search needs
+  enum-known-end : lts.Need-enum-known-end claims Pre reads.Post Inv μ
+  enum-known-end c = search needs
 
   group : (c : lts.After-known-told3 claims Pre reads.Post Inv μ)
-      → ObjectAt (now (c .before .before .before .before .before .before .before .before .before .args .part)) (c .before .before .before .before .before .loop .at) true (c .before .end2 .given .0 .0)
-  group c = subst (Stands (now (c .before .before .before .before .before .before .before .before .before .args .part)) (c .before .before .before .before .before .loop .at)) (c .before .end2 .given .1) (c .before .before .before .object-at .ensures)
+      → ObjectAt (now (c .before .before .before .before .before .before .before .before .before .args .part)) (c .before .before .before .before .before .loop .at) true (c .before .end .given .0 .0)
+  group c = subst (Stands (now (c .before .before .before .before .before .before .before .before .before .args .part)) (c .before .before .before .before .before .loop .at)) (c .before .end .given .1) (c .before .before .before .object-at .ensures)
 
   add-body : lts.Need-add-body claims Pre reads.Post Inv μ
   add-body c = omega (arith, c .before .before .before .before .before .before .before .before .before .pre .1, group c .ends, group c .inside)
@@ -102,7 +102,7 @@ module _ (t : ℕ) where
   add-place-2 c = omega (arith, c .before .before .before .before .before .before .before .before .before .pre .1, group c .ends, group c .inside)
 
   sub-check-part : lts.Need-sub-check-part claims Pre reads.Post Inv μ
-  sub-check-part c = omega (arith, group c .ends)
+  sub-check-part c = omega (arith, group c .ends, group c .inside)
 
   part-check-part-start : lts.Need-part-check-part-start claims Pre reads.Post Inv μ
   part-check-part-start c = omega (arith, group c .ends, group c .inside)
@@ -116,9 +116,7 @@ module _ (t : ℕ) where
   check-part-requires : lts.Need-check-part-requires claims Pre reads.Post Inv μ
   check-part-requires c κs =
       let o = group (c .before) in
-      let w = c .before .before .before .before .before .before .loop in
-      let size = value-size (now (c .before .before .before .before .before .before .before .before .before .before .args .part)) _ _ (w .at) (w .rows) (w .inv) (c .before .before .before .before .before .loop-test .taken) _ _ o in
-      (omega (arith, c .before .before .before .before .before .before .before .before .before .before .pre .0, c .before .before .before .before .before .before .before .if2 .left), omega (arith, c .before .before .before .before .before .before .before .before .before .before .pre .1, size, o .ends, o .inside))
+      (omega (arith, c .before .before .before .before .before .before .before .before .before .before .pre .0, c .before .before .before .before .before .before .before .if2 .left), omega (arith, c .before .before .before .before .before .before .before .before .before .before .pre .1, c .check-part-arg .given, o .ends, o .inside))
 
   enum-known-why-2 : lts.Need-enum-known-why-2 claims Pre reads.Post Inv μ
   enum-known-why-2 c = search needs
@@ -133,7 +131,7 @@ module _ (t : ℕ) where
   enum-known-n c = search needs
 
   passed : (c : lts.After-known-told5 claims Pre reads.Post Inv μ)
-      → Sofar (now (c .before .before .before .before .before .before .before .before .before .before .before .before .before .before .args .part)) (c .before .before .before .before .before .before .before .before .before .before .before .before .before .before .args .base) (c .before .before .before .before .before .before .before .before .before .before .before .before .before .before .args .left) (c .before .before .before .before .before .before .end2 .given .0 .0) (c .before .before .before .before .before .before .before .before .before .before .loop .rows + c .before .n .given .0 .0)
+      → Sofar (now (c .before .before .before .before .before .before .before .before .before .before .before .before .before .before .args .part)) (c .before .before .before .before .before .before .before .before .before .before .before .before .before .before .args .base) (c .before .before .before .before .before .before .before .before .before .before .before .before .before .before .args .left) (c .before .before .before .before .before .before .end .given .0 .0) (c .before .before .before .before .before .before .before .before .before .before .loop .rows + c .before .n .given .0 .0)
   passed c =
       let w = c .before .before .before .before .before .before .before .before .before .before .loop in
       group-passed (now (c .before .before .before .before .before .before .before .before .before .before .before .before .before .before .args .part)) _ _ (w .at) (w .rows) (w .inv) (c .before .before .before .before .before .before .before .before .before .loop-test .taken) _ (group (c .before .before .before .before .before)) _
@@ -166,11 +164,11 @@ pub +check-part-spec : {M : Type 1} → statement M
     (enum-known-why t)
     (add-place t)
     (returns-3 t)
-    (enum-known-end t)
+    (enum-known-next t)
     (add-rows t)
     (loop-less t)
     (loop-again t)
-    (enum-known-end-2 t)
+    (enum-known-end t)
     (add-body t)
     (add-place-2 t)
     (sub-check-part t)

@@ -77,15 +77,15 @@ loop-again c = opened c
 
 -- ---- a leaf
 
-enum-known-l : tie.Need-enum-known-l Inv μ
-enum-known-l c = search needs
+enum-known-found : tie.Need-enum-known-found Inv μ
+enum-known-found c = search needs
 
-leaf : (c : tie.After-l Inv μ) → stepAt (drop (c .before .before .before .before .before .loop .at) (now (c .before .before .before .before .before .before .before .before .before .args .file))) ≡ answer (some (c .l .given .0 .0))
+leaf : (c : tie.After-found Inv μ) → stepAt (drop (c .before .before .before .before .before .loop .at) (now (c .before .before .before .before .before .before .before .before .before .args .file))) ≡ answer (some (c .found .given .0 .0))
 leaf c =
     step-seen (now (c .before .before .before .before .before .before .before .before .before .args .file)) (c .before .before .before .before .before .loop .at)
-    (ap stepped (sym (c .l .given .1)) ∙ c .before .before .step-at .ensures)
+    (ap stepped (sym (c .found .given .1)) ∙ c .before .before .step-at .ensures)
 
-inside : (c : tie.After-l Inv μ) → c .before .before .before .before .before .loop .at + 20 + c .l .given .0 .0 .length ≤ length (now (c .before .before .before .before .before .before .before .before .before .args .file))
+inside : (c : tie.After-found Inv μ) → c .before .before .before .before .before .loop .at + 20 + c .found .given .0 .0 .length ≤ length (now (c .before .before .before .before .before .before .before .before .before .args .file))
 inside c =
     let w = c .before .before .before .before .before .loop in
     leaf-inside (now (c .before .before .before .before .before .before .before .before .before .args .file)) _ _ (w .at) (w .k) (w .inv) (c .before .before .before .before .loop-test .taken) _ (leaf c)
@@ -138,7 +138,7 @@ walk-from-spec =
     add-at
     loop-less
     loop-again
-    enum-known-l
+    enum-known-found
     returns-4
     sub-k
     add-body

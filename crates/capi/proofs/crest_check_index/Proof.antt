@@ -1,0 +1,34 @@
+-- `capi::crest_check_index` meets its contract: by what `check_index` answered.
+use mathlib.Core.Path.{_∙_, sym, ap}
+use Rattle.row_index.specs.Index.{accepted}
+use Rattle.capi.proofs.Handing.{answered-result, refused-result}
+use borrow.Author.Needs.{needs}
+use Rattle.capi.proofs.crest_check_index.Statement.{statement}
+use Rattle.capi.proofs.crest_check_index.Tie as tie
+
+check-index-requires : tie.Need-check-index-requires
+check-index-requires c κs = search needs
+
+enum-told : tie.Need-enum-told
+enum-told c = search needs
+
+enum-known-why : tie.Need-enum-known-why
+enum-known-why c = search needs
+
+refused-requires : tie.Need-refused-requires
+refused-requires c κs = search needs
+
+returns : tie.Need-returns
+returns c =
+    let e = sym (c .before .before .check-index .ensures) ∙ ap accepted (c .enum-told .given .1) in
+    answered-result e
+
+returns-2 : tie.Need-returns-2
+returns-2 c =
+    let e = sym (c .before .before .before .before .check-index .ensures) ∙ ap accepted (c .before .before .why .given .1) in
+    c .refused .ensures ∙ refused-result e
+
+pub crest-check-index-spec : {M : Type 1} → statement M
+crest-check-index-spec =
+    tie.close
+    (tie.spec check-index-requires enum-told enum-known-why refused-requires returns returns-2)

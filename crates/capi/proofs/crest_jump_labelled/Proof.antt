@@ -1,0 +1,16 @@
+-- `capi::crest_jump_labelled` meets its contract: `hand::part` hands over what `reader::jump_row` promises.
+use borrow.Author.Needs.{needs}
+use Rattle.capi.proofs.crest_jump_labelled.Statement.{statement}
+use Rattle.capi.proofs.crest_jump_labelled.Tie as tie
+
+jump-row-requires : tie.Need-jump-row-requires
+jump-row-requires c κs = search needs
+
+part-requires : tie.Need-part-requires
+part-requires c κs = search needs
+
+returns : tie.Need-returns
+returns c = rw (c .before .before .before .jump-row .ensures) at (c .part .ensures)
+
+pub crest-jump-labelled-spec : {M : Type 1} → statement M
+crest-jump-labelled-spec = tie.close (tie.spec jump-row-requires part-requires returns)

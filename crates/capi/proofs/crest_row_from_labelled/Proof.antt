@@ -1,0 +1,16 @@
+-- `capi::crest_row_from_labelled` meets its contract: `hand::part` hands over what `reader::row_from` promises.
+use borrow.Author.Needs.{needs}
+use Rattle.capi.proofs.crest_row_from_labelled.Statement.{statement}
+use Rattle.capi.proofs.crest_row_from_labelled.Tie as tie
+
+row-from-requires : tie.Need-row-from-requires
+row-from-requires c κs = search needs
+
+part-requires : tie.Need-part-requires
+part-requires c κs = search needs
+
+returns : tie.Need-returns
+returns c = rw (c .before .before .before .row-from .ensures) at (c .part .ensures)
+
+pub crest-row-from-labelled-spec : {M : Type 1} → statement M
+crest-row-from-labelled-spec = tie.close (tie.spec row-from-requires part-requires returns)

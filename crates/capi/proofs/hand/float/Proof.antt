@@ -1,0 +1,30 @@
+-- `capi::hand::float` meets its contract: by what was answered.
+use mathlib.Core.Path.{_∙_, ap}
+use Rattle.vax.specs.Decoded.{decoded}
+use Rattle.capi.proofs.Handing.{answered-result, answered-part, refused-result, refused-part}
+use borrow.Author.Needs.{needs}
+use Rattle.capi.proofs.hand.float.Statement.{statement}
+use Rattle.capi.proofs.hand.float.Tie as tie
+
+enum-known-answer : tie.Need-enum-known-answer
+enum-known-answer c = search needs
+
+enum-known-answer-2 : tie.Need-enum-known-answer-2
+enum-known-answer-2 c = search needs
+
+refused-requires : tie.Need-refused-requires
+refused-requires c κs = search needs
+
+returns : tie.Need-returns
+returns c =
+    let e = ap decoded (c .before .answer .given .1) in
+    (answered-result e, answered-part _ _ e)
+
+returns-2 : tie.Need-returns-2
+returns-2 c =
+    let e = ap decoded (c .before .before .answer2 .given .1) in
+    (c .refused .ensures ∙ refused-result e, refused-part _ _ e)
+
+pub float-spec : {M : Type 1} → statement M
+float-spec =
+    tie.close (tie.spec enum-known-answer enum-known-answer-2 refused-requires returns returns-2)

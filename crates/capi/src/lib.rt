@@ -1,0 +1,342 @@
+// The C boundary: one exported function for each call of docs/CONFORMANCE.md, in its order, with
+// `row_from` after the jumps. Renders document 01's "Every refusal carries its number and a place" as
+// the result, by value, and an answer's parts through pointers, which a refused call does not write.
+// What is answered is left to the crates below; the C declarations, and what a C caller owes, are left
+// to the header.
+mod hand;
+
+use altimeter::Judgement;
+use label::LabelRead;
+use orbit::Open;
+use reader::Kind;
+use row_index::Build;
+use row_index::Verified;
+ghost use mathlib.Core.Path.{_≡_};
+ghost use mathlib.Core.List.{[]};
+ghost use lib.ListN.{length as size};
+ghost use Rattle.answer.specs.Outcome.{mapped};
+ghost use Rattle.answer.specs.Filled.{filled};
+ghost use Rattle.label.specs.Label.{readLabel};
+ghost use Rattle.label_writer.specs.Write.{writeLabel};
+ghost use Rattle.reader.specs.Rows.{checkFile};
+ghost use Rattle.reader.specs.Read.{readRow, jumpRow, rowFrom};
+ghost use Rattle.row_index.specs.Index.{indexOf, builtOf, buildIndex, checkIndex};
+ghost use Rattle.kept.specs.Kept.{keepIndex, loadKept};
+ghost use Rattle.waveform.specs.Sample.{twiceAmplitude};
+ghost use Rattle.vax.specs.Numbers.{vaxF, vaxD};
+ghost use Rattle.orbit.specs.Opening.{perOrbitOpening};
+ghost use Rattle.altimeter.specs.Verdict.{verdictOf};
+ghost use Rattle.capi.specs.Handed.{resultOf, handed};
+ghost use Rattle.capi.specs.Parts.{fourBytes, sideNumber};
+
+// What every call returns: a refusal's number and its place; 0 and 0 for an answer.
+#[repr(C)]
+pub struct Result {
+    pub refusal: usize,
+    pub place: usize,
+}
+
+// The label at the front of the bytes.
+#[no_mangle]
+pub extern "C" fn crest_read_label(
+    bytes: &[u8],
+    agency: &mut [u8; 4],
+    class: &mut u8,
+    description: &mut [u8; 4],
+    length: &mut usize,
+) -> Result
+    ensures { λ r. ⌜ r ≡ resultOf (readLabel (now (bytes .entry))) ⌝ }
+    ensures { λ _. ⌜ now (agency .exit) ≡ handed (λ l. fourBytes (l .agency)) (readLabel (now (bytes .entry))) (now (agency .entry)) ⌝ }
+    ensures { λ _. ⌜ now (class .exit) ≡ handed (λ l. l .class) (readLabel (now (bytes .entry))) (now (class .entry)) ⌝ }
+    ensures { λ _. ⌜ now (description .exit) ≡ handed (λ l. fourBytes (l .description)) (readLabel (now (bytes .entry))) (now (description .entry)) ⌝ }
+    ensures { λ _. ⌜ now (length .exit) ≡ handed (λ l. l .length) (readLabel (now (bytes .entry))) (now (length .entry)) ⌝ }
+{
+    match label::read_label(bytes) {
+        LabelRead::Is(l) => {
+            let by = l.agency;
+            let about = l.description;
+            *agency = [by.a, by.b, by.c, by.d];
+            *class = l.class;
+            *description = [about.a, about.b, about.c, about.d];
+            *length = l.length;
+            hand::DONE
+        }
+        LabelRead::Refused(why, place) => hand::refused(why, place),
+    }
+}
+
+// Writes the label with bytes 0-11 as lent and this length to the first 20 bytes of `out`.
+#[no_mangle]
+pub extern "C" fn crest_write_label(
+    head: &[u8],
+    length: usize,
+    out: &mut [u8],
+    written: &mut usize,
+) -> Result
+    ensures { λ r. ⌜ r ≡ resultOf (writeLabel (now (head .entry)) length (size (now (out .entry)))) ⌝ }
+    ensures { λ _. ⌜ now (out .exit) ≡ filled (writeLabel (now (head .entry)) length (size (now (out .entry)))) (now (out .entry)) ⌝ }
+    ensures { λ _. ⌜ now (written .exit) ≡ handed size (writeLabel (now (head .entry)) length (size (now (out .entry)))) (now (written .entry)) ⌝ }
+{
+    hand::count(label_writer::write_label(head, length, out), written)
+}
+
+// How many rows a labelled file has.
+#[no_mangle]
+pub extern "C" fn crest_check_labelled(file: &[u8], rows: &mut usize) -> Result
+    ensures { λ r. ⌜ r ≡ resultOf (checkFile Kind.Labelled (now (file .entry))) ⌝ }
+    ensures { λ _. ⌜ now (rows .exit) ≡ handed (λ n. n) (checkFile Kind.Labelled (now (file .entry))) (now (rows .entry)) ⌝ }
+{
+    hand::count(reader::check(Kind::Labelled, file), rows)
+}
+
+// How many rows a waveform file has.
+#[no_mangle]
+pub extern "C" fn crest_check_waveform(file: &[u8], rows: &mut usize) -> Result
+    ensures { λ r. ⌜ r ≡ resultOf (checkFile Kind.Waveform (now (file .entry))) ⌝ }
+    ensures { λ _. ⌜ now (rows .exit) ≡ handed (λ n. n) (checkFile Kind.Waveform (now (file .entry))) (now (rows .entry)) ⌝ }
+{
+    hand::count(reader::check(Kind::Waveform, file), rows)
+}
+
+// A window of a labelled file's row, read from the first byte.
+#[no_mangle]
+pub extern "C" fn crest_read_row_labelled(
+    file: &[u8],
+    row: usize,
+    first: usize,
+    count: usize,
+    place: &mut usize,
+    shown: &mut usize,
+) -> Result
+    ensures { λ r. ⌜ r ≡ resultOf (readRow Kind.Labelled (now (file .entry)) row first count) ⌝ }
+    ensures { λ _. ⌜ now (place .exit) ≡ handed (λ p. p .place) (readRow Kind.Labelled (now (file .entry)) row first count) (now (place .entry)) ⌝ }
+    ensures { λ _. ⌜ now (shown .exit) ≡ handed (λ p. p .count) (readRow Kind.Labelled (now (file .entry)) row first count) (now (shown .entry)) ⌝ }
+{
+    hand::part(
+        reader::read_row(Kind::Labelled, file, row, first, count),
+        place,
+        shown,
+    )
+}
+
+// A window of a waveform file's row, read from the first byte.
+#[no_mangle]
+pub extern "C" fn crest_read_row_waveform(
+    file: &[u8],
+    row: usize,
+    first: usize,
+    count: usize,
+    place: &mut usize,
+    shown: &mut usize,
+) -> Result
+    ensures { λ r. ⌜ r ≡ resultOf (readRow Kind.Waveform (now (file .entry)) row first count) ⌝ }
+    ensures { λ _. ⌜ now (place .exit) ≡ handed (λ p. p .place) (readRow Kind.Waveform (now (file .entry)) row first count) (now (place .entry)) ⌝ }
+    ensures { λ _. ⌜ now (shown .exit) ≡ handed (λ p. p .count) (readRow Kind.Waveform (now (file .entry)) row first count) (now (shown .entry)) ⌝ }
+{
+    hand::part(
+        reader::read_row(Kind::Waveform, file, row, first, count),
+        place,
+        shown,
+    )
+}
+
+// A window of a labelled file's row, jumped to by the list.
+#[no_mangle]
+pub extern "C" fn crest_jump_labelled(
+    file: &[u8],
+    list: &[u32],
+    row: usize,
+    first: usize,
+    count: usize,
+    place: &mut usize,
+    shown: &mut usize,
+) -> Result
+    ensures { λ r. ⌜ r ≡ resultOf (jumpRow Kind.Labelled (now (file .entry)) (now (list .entry)) row first count) ⌝ }
+    ensures { λ _. ⌜ now (place .exit) ≡ handed (λ p. p .place) (jumpRow Kind.Labelled (now (file .entry)) (now (list .entry)) row first count) (now (place .entry)) ⌝ }
+    ensures { λ _. ⌜ now (shown .exit) ≡ handed (λ p. p .count) (jumpRow Kind.Labelled (now (file .entry)) (now (list .entry)) row first count) (now (shown .entry)) ⌝ }
+{
+    hand::part(
+        reader::jump_row(Kind::Labelled, file, list, row, first, count),
+        place,
+        shown,
+    )
+}
+
+// A window of a waveform file's row, jumped to with no list.
+#[no_mangle]
+pub extern "C" fn crest_jump_waveform(
+    file: &[u8],
+    row: usize,
+    first: usize,
+    count: usize,
+    place: &mut usize,
+    shown: &mut usize,
+) -> Result
+    ensures { λ r. ⌜ r ≡ resultOf (jumpRow Kind.Waveform (now (file .entry)) [] row first count) ⌝ }
+    ensures { λ _. ⌜ now (place .exit) ≡ handed (λ p. p .place) (jumpRow Kind.Waveform (now (file .entry)) [] row first count) (now (place .entry)) ⌝ }
+    ensures { λ _. ⌜ now (shown .exit) ≡ handed (λ p. p .count) (jumpRow Kind.Waveform (now (file .entry)) [] row first count) (now (shown .entry)) ⌝ }
+{
+    let none: [u32; 0] = [];
+    hand::part(
+        reader::jump_row(Kind::Waveform, file, &none, row, first, count),
+        place,
+        shown,
+    )
+}
+
+// The first row of a labelled file from a place on.
+#[no_mangle]
+pub extern "C" fn crest_row_from_labelled(
+    file: &[u8],
+    from: usize,
+    place: &mut usize,
+    shown: &mut usize,
+) -> Result
+    ensures { λ r. ⌜ r ≡ resultOf (rowFrom Kind.Labelled (now (file .entry)) from) ⌝ }
+    ensures { λ _. ⌜ now (place .exit) ≡ handed (λ p. p .place) (rowFrom Kind.Labelled (now (file .entry)) from) (now (place .entry)) ⌝ }
+    ensures { λ _. ⌜ now (shown .exit) ≡ handed (λ p. p .count) (rowFrom Kind.Labelled (now (file .entry)) from) (now (shown .entry)) ⌝ }
+{
+    hand::part(reader::row_from(Kind::Labelled, file, from), place, shown)
+}
+
+// The first row of a waveform file from a place on.
+#[no_mangle]
+pub extern "C" fn crest_row_from_waveform(
+    file: &[u8],
+    from: usize,
+    place: &mut usize,
+    shown: &mut usize,
+) -> Result
+    ensures { λ r. ⌜ r ≡ resultOf (rowFrom Kind.Waveform (now (file .entry)) from) ⌝ }
+    ensures { λ _. ⌜ now (place .exit) ≡ handed (λ p. p .place) (rowFrom Kind.Waveform (now (file .entry)) from) (now (place .entry)) ⌝ }
+    ensures { λ _. ⌜ now (shown .exit) ≡ handed (λ p. p .count) (rowFrom Kind.Waveform (now (file .entry)) from) (now (shown .entry)) ⌝ }
+{
+    hand::part(reader::row_from(Kind::Waveform, file, from), place, shown)
+}
+
+// Writes the index of a labelled file to the front of the list.
+#[no_mangle]
+pub extern "C" fn crest_build_index(
+    file: &[u8],
+    list: &mut [u32],
+    entries: &mut usize,
+    rows: &mut usize,
+) -> Result
+    ensures { λ r. ⌜ r ≡ resultOf (mapped builtOf (buildIndex (now (file .entry)) (size (now (list .entry))))) ⌝ }
+    ensures { λ _. ⌜ now (list .exit) ≡ filled (mapped indexOf (buildIndex (now (file .entry)) (size (now (list .entry))))) (now (list .entry)) ⌝ }
+    ensures { λ _. ⌜ now (entries .exit) ≡ handed (λ b. b .entries) (mapped builtOf (buildIndex (now (file .entry)) (size (now (list .entry))))) (now (entries .entry)) ⌝ }
+    ensures { λ _. ⌜ now (rows .exit) ≡ handed (λ b. b .rows) (mapped builtOf (buildIndex (now (file .entry)) (size (now (list .entry))))) (now (rows .entry)) ⌝ }
+{
+    match row_index::build_index(file, list) {
+        Build::Is(b) => {
+            *entries = b.entries;
+            *rows = b.rows;
+            hand::DONE
+        }
+        Build::Refused(why, place) => hand::refused(why, place),
+    }
+}
+
+// Whether the whole list is the index of a labelled file.
+#[no_mangle]
+pub extern "C" fn crest_check_index(file: &[u8], list: &[u32]) -> Result
+    ensures { λ r. ⌜ r ≡ resultOf (checkIndex (now (file .entry)) (now (list .entry))) ⌝ }
+{
+    match row_index::check_index(file, list) {
+        Verified::Right => hand::DONE,
+        Verified::Refused(why, place) => hand::refused(why, place),
+    }
+}
+
+// Writes the kept form of a list to the front of `out`.
+#[no_mangle]
+pub extern "C" fn crest_keep_index(list: &[u32], out: &mut [u8], written: &mut usize) -> Result
+    ensures { λ r. ⌜ r ≡ resultOf (keepIndex (now (list .entry)) (size (now (out .entry)))) ⌝ }
+    ensures { λ _. ⌜ now (out .exit) ≡ filled (keepIndex (now (list .entry)) (size (now (out .entry)))) (now (out .entry)) ⌝ }
+    ensures { λ _. ⌜ now (written .exit) ≡ handed size (keepIndex (now (list .entry)) (size (now (out .entry)))) (now (written .entry)) ⌝ }
+{
+    hand::count(kept::keep(list, out), written)
+}
+
+// Reads the list that these bytes keep to the front of `list`.
+#[no_mangle]
+pub extern "C" fn crest_load_kept(bytes: &[u8], list: &mut [u32], entries: &mut usize) -> Result
+    ensures { λ r. ⌜ r ≡ resultOf (loadKept (now (bytes .entry)) (size (now (list .entry)))) ⌝ }
+    ensures { λ _. ⌜ now (list .exit) ≡ filled (loadKept (now (bytes .entry)) (size (now (list .entry)))) (now (list .entry)) ⌝ }
+    ensures { λ _. ⌜ now (entries .exit) ≡ handed size (loadKept (now (bytes .entry)) (size (now (list .entry)))) (now (entries .entry)) ⌝ }
+{
+    hand::count(kept::load(bytes, list), entries)
+}
+
+// Twice the amplitude that a sample byte stands for: it never refuses, and returns the number itself.
+#[no_mangle]
+pub extern "C" fn crest_sample(sample: u8) -> i64
+    ensures { λ r. ⌜ r ≡ twiceAmplitude sample ⌝ }
+{
+    waveform::sample(sample)
+}
+
+// The VAX F number in the first 4 bytes.
+#[no_mangle]
+pub extern "C" fn crest_vax_f(bytes: &[u8], number: &mut f64) -> Result
+    ensures { λ r. ⌜ r ≡ resultOf (vaxF (now (bytes .entry))) ⌝ }
+    ensures { λ _. ⌜ now (number .exit) ≡ handed (λ x. x) (vaxF (now (bytes .entry))) (now (number .entry)) ⌝ }
+{
+    hand::float(vax::vax_f(bytes), number)
+}
+
+// The VAX D number in the first 8 bytes.
+#[no_mangle]
+pub extern "C" fn crest_vax_d(bytes: &[u8], number: &mut f64) -> Result
+    ensures { λ r. ⌜ r ≡ resultOf (vaxD (now (bytes .entry))) ⌝ }
+    ensures { λ _. ⌜ now (number .exit) ≡ handed (λ x. x) (vaxD (now (bytes .entry))) (now (number .entry)) ⌝ }
+{
+    hand::float(vax::vax_d(bytes), number)
+}
+
+// The opening of the per-orbit parameters: the orbit's number, and when its mapping starts and stops.
+#[no_mangle]
+pub extern "C" fn crest_opening(
+    bytes: &[u8],
+    orbit: &mut usize,
+    start: &mut f64,
+    stop: &mut f64,
+) -> Result
+    ensures { λ r. ⌜ r ≡ resultOf (perOrbitOpening (now (bytes .entry))) ⌝ }
+    ensures { λ _. ⌜ now (orbit .exit) ≡ handed (λ o. o .orbit) (perOrbitOpening (now (bytes .entry))) (now (orbit .entry)) ⌝ }
+    ensures { λ _. ⌜ now (start .exit) ≡ handed (λ o. o .start) (perOrbitOpening (now (bytes .entry))) (now (start .entry)) ⌝ }
+    ensures { λ _. ⌜ now (stop .exit) ≡ handed (λ o. o .stop) (perOrbitOpening (now (bytes .entry))) (now (stop .entry)) ⌝ }
+{
+    match orbit::per_orbit_opening(bytes) {
+        Open::Is(o) => {
+            *orbit = o.orbit;
+            *start = o.start;
+            *stop = o.stop;
+            hand::DONE
+        }
+        Open::Refused(why, place) => hand::refused(why, place),
+    }
+}
+
+// Where a value stands against its element's limits: 0 below, 1 inside, 2 above.
+#[no_mangle]
+pub extern "C" fn crest_verdict(element: usize, value: i64, verdict: &mut usize) -> Result
+    ensures { λ r. ⌜ r ≡ resultOf (verdictOf element value) ⌝ }
+    ensures { λ _. ⌜ now (verdict .exit) ≡ handed sideNumber (verdictOf element value) (now (verdict .entry)) ⌝ }
+{
+    match altimeter::verdict(element, value) {
+        Judgement::Below => {
+            *verdict = 0;
+            hand::DONE
+        }
+        Judgement::Inside => {
+            *verdict = 1;
+            hand::DONE
+        }
+        Judgement::Above => {
+            *verdict = 2;
+            hand::DONE
+        }
+        Judgement::Refused(why, place) => hand::refused(why, place),
+    }
+}
