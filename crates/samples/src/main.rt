@@ -1,0 +1,137 @@
+// Samples, printed and compared with a stored output: files of the folder data/ listed as the list
+// program lists them, among them records of source documents 001 (sections 3.2.1, 3.2.2 and 3.5.12)
+// and 004 (sections 4.4.146 to 4.4.149); the opening of that record of file 12; and document 01's
+// cases that are not proved, 6 (depths 8 and 9) and 9 (windows at the end of a waveform row).
+use answer::Refusal;
+use answer::Show;
+use libc::STDOUT_FILENO;
+use orbit::Open;
+use reader::Kind;
+
+// How many bytes a waveform row has.
+const ROW: usize = 2080;
+
+fn print(text: &[u8]) {
+    io::write_all(STDOUT_FILENO, text);
+}
+
+// Prints a number after a space.
+fn print_number(n: usize) {
+    print(b" ");
+    io::print_decimal(STDOUT_FILENO, n as u64);
+}
+
+// Prints ` refused NUMBER PLACE`.
+fn print_refusal(why: Refusal, place: usize) {
+    print(b" refused");
+    print_number(answer::number(why));
+    print_number(place);
+}
+
+// Prints the listing of a file.
+fn print_listing(file: &[u8]) {
+    let mut text = [0u8; 73728];
+    let size = listing::write_listing(file, &mut text);
+    print(&text[..size]);
+}
+
+// Prints a file's name and its listing. As in the list program, one byte more than the largest
+// file is asked for.
+fn list(name: &[u8]) {
+    print(name);
+    print(b"\n");
+    let fd = os::open_read(name);
+    if fd < 0 {
+        os::fail(name);
+        return;
+    }
+    let mut memory = [0u8; 65537];
+    let input = input::read_up_to(fd, &mut memory);
+    libc::close(fd);
+    if input.failed {
+        os::fail(name);
+        return;
+    }
+    let size = input.size;
+    print_listing(&memory[..size]);
+}
+
+// Prints a time of the sample record: 1 second before or after the epoch.
+fn print_time(time: f64) {
+    if time == 1.0 {
+        print(b" 1");
+        return;
+    }
+    if time == -1.0 {
+        print(b" -1");
+        return;
+    }
+    print(b" another");
+}
+
+// Prints the opening of a record of file 12: its data block begins 8 bytes into the value, after the
+// secondary header, and so 28 bytes after the label's first.
+fn print_opening(name: &[u8]) {
+    let mut memory = [0u8; 540];
+    let fd = os::open_read(name);
+    if fd < 0 {
+        os::fail(name);
+        return;
+    }
+    input::read_up_to(fd, &mut memory);
+    libc::close(fd);
+    print(b"opening");
+    match orbit::per_orbit_opening(&memory[28..]) {
+        Open::Is(opening) => {
+            print_number(opening.orbit);
+            print_time(opening.start);
+            print_time(opening.stop);
+        }
+        Open::Refused(why, place) => print_refusal(why, place),
+    }
+    print(b"\n");
+}
+
+// Prints the place and the count of a part that is shown, or the refusal.
+fn print_shown(shown: Show) {
+    match shown {
+        Show::Is(part) => {
+            print_number(part.place);
+            print_number(part.count);
+        }
+        Show::Refused(why, place) => print_refusal(why, place),
+    }
+}
+
+// Prints the window (a, c) of the one row of a waveform file, read and jumped to.
+fn print_window(a: usize, c: usize) {
+    let file = [0u8; ROW];
+    let none = [0u32; 0];
+    print(b"window");
+    print_number(a);
+    print_number(c);
+    print(b": read");
+    print_shown(reader::read_row(Kind::Waveform, &file, 0, a, c));
+    print(b", jumped to");
+    print_shown(reader::jump_row(Kind::Waveform, &file, &none, 0, a, c));
+    print(b"\n");
+}
+
+fn main() {
+    list(b"empty.sfdu");
+    list(b"outer_length_42.sfdu");
+    list(b"inner_length_24.sfdu");
+    list(b"depth_8.sfdu");
+    list(b"depth_9.sfdu");
+    list(b"nested_33_rows.sfdu");
+    list(b"volume_header.sfdu");
+    list(b"volume_trailer.sfdu");
+    list(b"file_12_record.sfdu");
+    print_opening(b"file_12_record.sfdu");
+    list(b"pass_file.sfdu");
+    list(b"bytes_65536.sfdu");
+    list(b"bytes_65537.sfdu");
+    print_window(2048, 0);
+    print_window(2048, 1);
+    print_window(2049, 0);
+}
