@@ -48,7 +48,7 @@ add-i : tie.Need-add-i Inv μ
 add-i c = omega (arith, c .before .before .before .before .before .pre .2)
 
 loop-less : tie.Need-loop-less Inv μ
-loop-less c = omega (arith, c .before .before .before .before .before .pre .2, c .before .loop-test .taken)
+loop-less c = omega (arith, long (c .before .before), c .before .before .before .before .before .pre .2, c .before .loop-test .taken)
 
 loop-again : tie.Need-loop-again Inv μ
 loop-again c =
