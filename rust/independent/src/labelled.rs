@@ -1,5 +1,5 @@
-//! Labelled files: the pass over their labels, the check, and reading a row
-//! without an index.
+//! Labelled files: the pass over their labels, the check, reading a row without
+//! an index, and going on from a place.
 
 use crate::check_size;
 use crate::label::{Label, LABEL_BYTES};
@@ -108,51 +108,52 @@ pub fn read_row(file: &[u8], number: u64, window: Window) -> Result<Part<'_>, Re
     window.show(file, row)
 }
 
+/// Gives the first row from a place on, whole. A place beyond the file has no
+/// row; what else stands in the way is what the walk meets.
+pub fn row_from(file: &[u8], from: u64) -> Result<Part<'_>, Refusal> {
+    let end = file.len() as u64;
+    check_size(end)?;
+    if from > end {
+        return Err(Reason::NoRow.at_start());
+    }
+    let row = walk(file, from, 0)?;
+    Window::new(0, row.length).show(file, row)
+}
+
+/// Walks on from a place inside the file, or from its end, past so many leaves
+/// to the next one.
+///
+/// The walk knows nothing of depth: it enters each group it meets, ignores how
+/// long the group says it is, and measures leaves against the end of the file.
+pub(crate) fn walk(file: &[u8], from: u64, leaves_before: u64) -> Result<Row, Refusal> {
+    let end = file.len() as u64;
+    let mut place = from;
+    let mut leaves_before = leaves_before;
+    while place < end {
+        let label = Label::read_at(file, place, end)?;
+        let start = place + LABEL_BYTES;
+        if label.is_group() {
+            place = start;
+            continue;
+        }
+        if label.length > end - start {
+            return Err(Reason::Overrun.at(place));
+        }
+        if leaves_before == 0 {
+            return Ok(Row {
+                start,
+                length: label.length,
+            });
+        }
+        leaves_before -= 1;
+        place = start + label.length;
+    }
+    Err(Reason::NoRow.at_start())
+}
+
 #[cfg(test)]
 mod tests {
     use super::*;
-    use crate::generator::{files, random::Random};
-
-    /// The check once more, as one function that calls itself on each group.
-    fn check_by_recursion(file: &[u8], from: u64, end: u64, left: u8) -> Result<u64, Refusal> {
-        let mut rows = 0;
-        let mut place = from;
-        while place < end {
-            if left == 0 {
-                return Err(Reason::Deep.at(place));
-            }
-            let label = Label::read_at(file, place, end)?;
-            let room = end - place - 20;
-            if label.length > room {
-                return Err(Reason::Overrun.at(place));
-            }
-            let value = place + 20;
-            place = value + label.length;
-            rows += if label.class == b'Z' {
-                check_by_recursion(file, value, place, left - 1)?
-            } else {
-                1
-            };
-        }
-        Ok(rows)
-    }
-
-    #[test]
-    fn the_pass_agrees_with_recursion() {
-        let mut random = Random::new(20);
-        let mut accepted = 0;
-        for _ in 0..4_000 {
-            let mut file = files::labelled(&mut random);
-            if random.chance(60) {
-                files::damage(&mut file, &mut random);
-            }
-            let length = file.bytes.len() as u64;
-            let expected = check_by_recursion(&file.bytes, 0, length, 8);
-            assert_eq!(check(&file.bytes), expected);
-            accepted += u32::from(expected.is_ok());
-        }
-        assert!((1_000..3_900).contains(&accepted), "{accepted} accepted");
-    }
 
     #[test]
     fn an_empty_file_has_no_row() {
@@ -213,5 +214,52 @@ mod tests {
         }
         file.push(b'x');
         assert_eq!(check(&file), Err(Reason::Deep.at(160)));
+    }
+
+    fn from(file: &[u8], place: u64) -> Result<(u64, &[u8]), Refusal> {
+        row_from(file, place).map(|part| (part.place, part.bytes))
+    }
+
+    #[test]
+    fn going_on_at_the_end_of_each_row_gives_all_rows() {
+        let file = b"CCSD1Z00000100000043NJPL1I00DEMO00000003abcNJPL1I00DEMO00000000\
+                     CCSD1Z00000100000000NJPL1K00LAST00000002xy";
+        assert_eq!(from(file, 0), Ok((40, &b"abc"[..])));
+        assert_eq!(from(file, 43), Ok((63, &b""[..])));
+        assert_eq!(from(file, 63), Ok((103, &b"xy"[..])));
+        assert_eq!(from(file, 105), Err(Reason::NoRow.at_start()));
+    }
+
+    #[test]
+    fn a_place_beyond_the_file_has_no_row() {
+        for place in [1, 2, 1 << 32, u64::MAX - 19, u64::MAX] {
+            assert_eq!(from(b"", place), Err(Reason::NoRow.at_start()));
+        }
+        assert_eq!(from(b"", 0), Err(Reason::NoRow.at_start()));
+        assert_eq!(from(&[0; 30], 31), Err(Reason::NoRow.at_start()));
+    }
+
+    #[test]
+    fn going_on_meets_faults_where_it_comes_by() {
+        let file = b"NJPL1I00DEMO00000003abcCCSD1Z0000010000x000NJPL1I00DEMO00000009abc";
+        assert_eq!(from(file, 0), Ok((20, &b"abc"[..])));
+        assert_eq!(from(file, 1), Err(Reason::BadLabel.at(1)));
+        assert_eq!(from(file, 23), Err(Reason::BadLength.at(23)));
+        assert_eq!(from(file, 43), Err(Reason::Overrun.at(43)));
+        assert_eq!(from(file, 60), Err(Reason::Short.at(60)));
+    }
+
+    #[test]
+    fn going_on_enters_groups_whatever_their_length() {
+        let file = b"CCSD1Z00000199999999CCSD1Z00000100000000NJPL1I00DEMO00000003abc";
+        assert_eq!(from(file, 0), Ok((60, &b"abc"[..])));
+        let deep = b"CCSD1Z00000100000000".repeat(12);
+        assert_eq!(from(&deep, 0), Err(Reason::NoRow.at_start()));
+    }
+
+    #[test]
+    fn going_on_inside_a_value_takes_its_bytes_for_labels() {
+        let file = b"NJPL1I00DEMO00000023NJPL1I00DEMO00000003abc";
+        assert_eq!(from(file, 20), Ok((40, &b"abc"[..])));
     }
 }

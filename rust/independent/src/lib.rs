@@ -9,8 +9,6 @@
 #![forbid(unsafe_code)]
 
 pub mod altimeter;
-pub mod cases;
-pub mod generator;
 pub mod kept;
 pub mod label;
 pub mod labelled;

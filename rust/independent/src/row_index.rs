@@ -1,10 +1,9 @@
 //! The index of a labelled file, and the jump that uses one.
 
 use crate::check_size;
-use crate::label::{Label, LABEL_BYTES};
-use crate::labelled::{self, leaves};
+use crate::labelled::{self, leaves, walk};
 use crate::refusal::{Reason, Refusal};
-use crate::window::{Part, Row, Window};
+use crate::window::{Part, Window};
 
 /// One entry stands for this many rows.
 pub const GROUP_ROWS: u64 = 16;
@@ -40,9 +39,6 @@ pub fn check(file: &[u8], list: &[u32]) -> Result<(), Refusal> {
 }
 
 /// Reads a window of row `number` by walking on from the entry of its group.
-///
-/// The walk knows nothing of depth: it enters each group it meets, ignores how
-/// long the group says it is, and measures leaves against the end of the file.
 pub fn jump<'a>(
     file: &'a [u8],
     list: &[u32],
@@ -55,32 +51,12 @@ pub fn jump<'a>(
         .ok()
         .and_then(|group| list.get(group))
         .ok_or(Reason::NoRow.at_start())?;
-    let mut place = u64::from(*entry);
+    let place = u64::from(*entry);
     if place > end {
         return Err(Reason::BadIndex.at_start());
     }
-    let mut leaves_before = number % GROUP_ROWS;
-    while place < end {
-        let label = Label::read_at(file, place, end)?;
-        let start = place + LABEL_BYTES;
-        if label.is_group() {
-            place = start;
-            continue;
-        }
-        if label.length > end - start {
-            return Err(Reason::Overrun.at(place));
-        }
-        if leaves_before == 0 {
-            let row = Row {
-                start,
-                length: label.length,
-            };
-            return window.show(file, row);
-        }
-        leaves_before -= 1;
-        place = start + label.length;
-    }
-    Err(Reason::NoRow.at_start())
+    let row = walk(file, place, number % GROUP_ROWS)?;
+    window.show(file, row)
 }
 
 /// The label places of rows 0, 16, 32 and so on. They fit 32 bits because the
@@ -94,7 +70,6 @@ fn entries_of(file: &[u8]) -> Result<impl Iterator<Item = Result<u32, Refusal>> 
 #[cfg(test)]
 mod tests {
     use super::*;
-    use crate::generator::{files, random::Random};
 
     const ALL: Window = Window { first: 0, count: 0 };
 
@@ -143,27 +118,6 @@ mod tests {
         assert_eq!(build(&file, &mut list), Err(Reason::Short.at(0)));
         assert_eq!(check(&file, &list), Err(Reason::Short.at(0)));
         assert_eq!(list, [7]);
-    }
-
-    #[test]
-    fn a_right_index_gives_what_reading_gives() {
-        let mut random = Random::new(16);
-        for _ in 0..1_500 {
-            let file = files::labelled(&mut random);
-            let Ok(rows) = labelled::check(&file.bytes) else {
-                continue;
-            };
-            let mut list = [0; 64];
-            let used = build(&file.bytes, &mut list).unwrap().entries as usize;
-            for number in 0..rows + 2 {
-                for window in [ALL, Window::new(1, 2), Window::new(0, 20)] {
-                    assert_eq!(
-                        jump(&file.bytes, &list[..used], number, window),
-                        labelled::read_row(&file.bytes, number, window)
-                    );
-                }
-            }
-        }
     }
 
     #[test]

@@ -47,6 +47,17 @@ pub fn jump(file: &[u8], number: u64, window: Window) -> Result<Part<'_>, Refusa
     window.show(file, samples_at(number * RECORD_BYTES))
 }
 
+/// Gives the row that begins at the place `from`, prefix first, with all of its
+/// samples.
+pub fn row_from(file: &[u8], from: u64) -> Result<Part<'_>, Refusal> {
+    check(file)?;
+    if !from.is_multiple_of(RECORD_BYTES) || from >= file.len() as u64 {
+        return Err(Reason::NoRow.at_start());
+    }
+    let row = samples_at(from);
+    Window::new(0, row.length).show(file, row)
+}
+
 /// Twice the amplitude that a sample stands for.
 pub fn sample(byte: u8) -> i16 {
     2 * i16::from(byte) - 255
@@ -117,6 +128,24 @@ mod tests {
         let window = Window::new(9_999, 9);
         assert_eq!(read_row(&[0; 1], 5, window), Err(Reason::Ragged.at_start()));
         assert_eq!(jump(&[0; 1], 5, window), Err(Reason::Ragged.at_start()));
+    }
+
+    #[test]
+    fn going_on_begins_where_rows_begin() {
+        let file = rows(3);
+        for row in 0..3u8 {
+            let place = u64::from(row) * 2_080;
+            let part = row_from(&file, place).unwrap();
+            assert_eq!(part.place, place + 32);
+            assert_eq!(part.bytes, [row; 2_048]);
+        }
+        let huge = u64::MAX / RECORD_BYTES * RECORD_BYTES;
+        for place in [1, 32, 2_079, 2_081, 3 * 2_080, 4 * 2_080, huge, u64::MAX] {
+            assert_eq!(row_from(&file, place), Err(Reason::NoRow.at_start()));
+        }
+        assert_eq!(row_from(&[], 0), Err(Reason::NoRow.at_start()));
+        assert_eq!(row_from(&file[1..], 0), Err(Reason::Ragged.at_start()));
+        assert_eq!(row_from(&file[1..], 1), Err(Reason::Ragged.at_start()));
     }
 
     #[test]
