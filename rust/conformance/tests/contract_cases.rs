@@ -1,7 +1,8 @@
-//! The twelve cases at the end of the contract, as lines of the case language
-//! and their answers.
+//! The twelve cases at the end of the contract, as lines of the case language and their answers,
+//! by both implementations.
 
-use independent::cases::answer_line;
+use conformance::answer_line;
+use conformance::library::{INDEPENDENT, PROVED};
 
 const DEMO: &str = "CCSD1Z00000100000043NJPL1I00DEMO00000003abcNJPL1I00DEMO00000000";
 
@@ -14,7 +15,9 @@ fn hex(bytes: impl AsRef<[u8]>) -> String {
 }
 
 fn expect(case: &str, answer: &str) {
-    assert_eq!(answer_line(case.as_bytes()), answer, "{case}");
+    for library in [INDEPENDENT, PROVED] {
+        assert_eq!(answer_line(&library, case.as_bytes()), answer, "{case}");
+    }
 }
 
 /// Groups nested so deep, with `inside` in the innermost.

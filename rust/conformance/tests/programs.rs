@@ -1,9 +1,10 @@
-//! The three programs, run as a user runs them.
+//! The programs, run as a user runs them.
 
-use std::io::Write;
+use std::io::{BufRead, BufReader, Write};
 use std::process::{Command, Output, Stdio};
 
 const ANSWER: &str = env!("CARGO_BIN_EXE_answer");
+const PROVED: &str = env!("CARGO_BIN_EXE_proved");
 const GENERATE: &str = env!("CARGO_BIN_EXE_generate");
 const COMPARE: &str = env!("CARGO_BIN_EXE_compare");
 
@@ -11,8 +12,12 @@ fn run(program: &str, arguments: &[&str]) -> Output {
     Command::new(program).args(arguments).output().unwrap()
 }
 
-fn answer(cases: &[u8]) -> String {
-    let mut child = Command::new(ANSWER)
+fn text(bytes: &[u8]) -> String {
+    String::from_utf8(bytes.to_vec()).unwrap()
+}
+
+fn answers(program: &str, cases: &[u8]) -> String {
+    let mut child = Command::new(program)
         .stdin(Stdio::piped())
         .stdout(Stdio::piped())
         .spawn()
@@ -20,23 +25,40 @@ fn answer(cases: &[u8]) -> String {
     child.stdin.take().unwrap().write_all(cases).unwrap();
     let output = child.wait_with_output().unwrap();
     assert!(output.status.success());
-    String::from_utf8(output.stdout).unwrap()
-}
-
-fn text(bytes: &[u8]) -> String {
-    String::from_utf8(bytes.to_vec()).unwrap()
+    text(&output.stdout)
 }
 
 #[test]
 fn a_line_for_a_line() {
-    assert_eq!(answer(b""), "");
-    assert_eq!(answer(b"\n"), "bad line\n");
-    assert_eq!(answer(b"sample 0\n"), "ok -255\n");
-    assert_eq!(
-        answer(b"sample 0\n\xff\xfe\nsample 255"),
-        "ok -255\nbad line\nok 255\n"
-    );
-    assert_eq!(answer(b"sample 0\r\nsample 1\n"), "bad line\nok -253\n");
+    for program in [ANSWER, PROVED] {
+        assert_eq!(answers(program, b""), "");
+        assert_eq!(
+            answers(program, b"sample 0\n\nrow_from waveform - 0"),
+            "ok -255\nbad line\nref 6 0\n"
+        );
+    }
+}
+
+/// An answer is there before more is asked.
+#[test]
+fn one_line_at_a_time() {
+    for program in [ANSWER, PROVED] {
+        let mut child = Command::new(program)
+            .stdin(Stdio::piped())
+            .stdout(Stdio::piped())
+            .spawn()
+            .unwrap();
+        let mut input = child.stdin.take().unwrap();
+        let mut output = BufReader::new(child.stdout.take().unwrap());
+        for (case, expected) in [("sample 0\n", "ok -255\n"), ("sample 255\n", "ok 255\n")] {
+            input.write_all(case.as_bytes()).unwrap();
+            let mut answer = String::new();
+            output.read_line(&mut answer).unwrap();
+            assert_eq!(answer, expected);
+        }
+        drop(input);
+        assert!(child.wait().unwrap().success());
+    }
 }
 
 #[test]
@@ -49,37 +71,20 @@ fn a_shorter_stream_is_the_front_of_a_longer_one() {
 }
 
 #[test]
-fn our_own_answers_do_not_differ() {
-    let output = run(COMPARE, &[ANSWER, "7", "400"]);
+fn the_two_implementations_do_not_differ() {
+    let output = run(COMPARE, &["7", "2000"]);
+    assert_eq!(text(&output.stdout), "2000 cases, seed 7: no difference\n");
+    assert_eq!(text(&output.stderr), "");
     assert!(output.status.success());
-    assert_eq!(text(&output.stdout), "400 cases, seed 7: no difference\n");
-}
-
-/// A program that answers nothing differs at the first case.
-#[test]
-fn a_difference_is_shown() {
-    let output = run(COMPARE, &[GENERATE, "7", "400"]);
-    assert_eq!(output.status.code(), Some(1));
-    let shown = text(&output.stdout);
-    assert!(
-        shown.starts_with("1 cases, seed 7: a difference\n"),
-        "{shown}"
-    );
-    assert!(shown.contains("\ncase:   "));
-    assert!(shown.contains("\nours:   "));
-    assert!(shown.contains("\ntheirs: (none)\n"));
 }
 
 #[test]
 fn wrong_arguments_are_named() {
-    for (program, arguments) in [
-        (GENERATE, &["1"][..]),
-        (GENERATE, &["one", "2"]),
-        (COMPARE, &[ANSWER, "1"]),
-        (COMPARE, &[ANSWER, "1", "-2"]),
-    ] {
-        let output = run(program, arguments);
-        assert_eq!(output.status.code(), Some(2));
-        assert!(text(&output.stderr).starts_with("usage: "));
+    for program in [GENERATE, COMPARE] {
+        for arguments in [&["1"][..], &["one", "2"], &["1", "-2"], &["1", "2", "3"]] {
+            let output = run(program, arguments);
+            assert_eq!(output.status.code(), Some(2));
+            assert!(text(&output.stderr).starts_with("usage: "));
+        }
     }
 }

@@ -1,8 +1,10 @@
 //! Records as the source documents print them.
 
-use independent::generator::published::{
+use conformance::generator::published::{
     pass_file, per_orbit_record, volume_header, volume_trailer,
 };
+use conformance::library::{INDEPENDENT, PROVED};
+use crestulbino::Kind;
 use independent::labelled::{check, leaves, read_row, Leaf};
 use independent::orbit::{opening, Opening};
 use independent::row_index::{self, Built};
@@ -13,8 +15,20 @@ fn all_leaves(file: &[u8]) -> Vec<Leaf> {
     passed.unwrap()
 }
 
-/// Value place, length, class and description of each row.
+/// Value place, length, class and description of each row. Both implementations find its bytes
+/// there.
 fn rows(file: &[u8]) -> Vec<(u64, u64, char, String)> {
+    for (number, leaf) in all_leaves(file).iter().enumerate() {
+        let (start, length) = (leaf.row.start as usize, leaf.row.length as usize);
+        for library in [INDEPENDENT, PROVED] {
+            let window = crestulbino::Window::new(0, length);
+            let row = (library.read_row)(Kind::Labelled, file, number, window).unwrap();
+            assert_eq!(
+                (row.place, row.bytes),
+                (start, &file[start..start + length])
+            );
+        }
+    }
     all_leaves(file)
         .into_iter()
         .map(|leaf| {

@@ -6,7 +6,6 @@ use std::iter::FusedIterator;
 
 /// What a file is. The caller says so: no call can tell the kinds apart.
 #[derive(Clone, Copy, Debug, PartialEq, Eq, Hash)]
-#[non_exhaustive]
 pub enum Kind {
     /// Objects with 20-byte CCSDS labels. Its rows are the values of the objects of all classes
     /// but `Z`, which holds further objects.

@@ -30,6 +30,7 @@
 //! header says, which means that it is of another version.
 
 #![deny(unsafe_code)]
+#![warn(missing_docs)]
 
 #[cfg(not(target_pointer_width = "64"))]
 compile_error!("the proved library counts in 64 bits");

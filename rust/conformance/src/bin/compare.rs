@@ -1,157 +1,81 @@
-//! Puts fresh cases to another implementation and compares its answers with
-//! ours: `compare PROGRAM SEED COUNT`. Ends with 0 if all agree, with 1 at the
-//! first difference, and with 2 if the comparison could not be made.
+//! `compare SEED COUNT`: the proved library beside the second implementation, on the first COUNT
+//! cases of a seed's stream. Ends with 0 if no answer differs, with 1 at the first difference,
+//! and with 2 if nothing could be compared.
 
-use independent::cases::answer_line;
-use independent::generator::Generator;
-use std::fmt;
-use std::io::{self, BufRead, BufReader, BufWriter, ErrorKind, Write};
-use std::process::{Child, ChildStdin, Command, ExitCode, Stdio};
-use std::thread;
+use conformance::compare::{Difference, Sides};
+use conformance::library::{INDEPENDENT, PROVED};
+use conformance::program::{seed_and_count, status};
+use std::io::{self, IsTerminal, Write};
+use std::process::ExitCode;
+use std::time::{Duration, Instant};
 
-/// Longer lines are cut when they are shown.
-const SHOWN: usize = 1_200;
+/// The exit status where the answers differ.
+const DIFFERENT: u8 = 1;
 
 fn main() -> ExitCode {
-    let arguments: Vec<String> = std::env::args().skip(1).collect();
-    let [program, seed, count] = arguments.as_slice() else {
-        return usage();
+    match seed_and_count("compare") {
+        Ok((seed, count)) => status("compare", report(seed, count, compare(seed, count))),
+        Err(unusable) => unusable,
+    }
+}
+
+fn compare(seed: u64, count: usize) -> Option<Difference> {
+    let sides = Sides {
+        left: ("independent", &INDEPENDENT),
+        right: ("proved", &PROVED),
     };
-    let (Ok(seed), Ok(count)) = (seed.parse(), count.parse()) else {
-        return usage();
+    let mut progress = Progress::of(count);
+    let difference = sides.first_difference(seed, count, |done| progress.show(done));
+    progress.clear();
+    difference
+}
+
+fn report(seed: u64, count: usize, difference: Option<Difference>) -> io::Result<ExitCode> {
+    let mut output = io::stdout().lock();
+    let Some(difference) = difference else {
+        writeln!(output, "{count} cases, seed {seed}: no difference")?;
+        return Ok(ExitCode::SUCCESS);
     };
-    match run(program, seed, count) {
-        Ok(None) => {
-            println!("{count} cases, seed {seed}: no difference");
-            ExitCode::SUCCESS
-        }
-        Ok(Some(difference)) => {
-            println!("{} cases, seed {seed}: a difference", difference.cases);
-            print!("{difference}");
-            ExitCode::from(1)
-        }
-        Err(error) => {
-            eprintln!("compare: {program}: {error}");
-            ExitCode::from(2)
-        }
-    }
+    let number = difference.number;
+    writeln!(output, "{number} cases, seed {seed}: a difference")?;
+    write!(output, "{difference}")?;
+    writeln!(output, "as generated: generate {seed} {number} | tail -n 1")?;
+    Ok(ExitCode::from(DIFFERENT))
 }
 
-fn usage() -> ExitCode {
-    eprintln!("usage: compare PROGRAM SEED COUNT");
-    ExitCode::from(2)
+/// How many cases were compared, on a terminal, ten times a second.
+struct Progress {
+    count: usize,
+    is_shown: bool,
+    next: Instant,
 }
 
-/// Where the two implementations part.
-struct Difference {
-    /// How many cases were compared, the differing one included.
-    cases: usize,
-    case: Option<String>,
-    ours: Option<String>,
-    theirs: Option<String>,
-}
+impl Progress {
+    const PAUSE: Duration = Duration::from_millis(100);
 
-impl fmt::Display for Difference {
-    fn fmt(&self, f: &mut fmt::Formatter<'_>) -> fmt::Result {
-        let show = |line: &Option<String>| line.as_deref().map_or("(none)".to_string(), cut);
-        writeln!(f, "number: {}", self.cases)?;
-        writeln!(f, "case:   {}", show(&self.case))?;
-        writeln!(f, "ours:   {}", show(&self.ours))?;
-        writeln!(f, "theirs: {}", show(&self.theirs))
-    }
-}
-
-fn cut(line: &str) -> String {
-    match line.char_indices().nth(SHOWN) {
-        Some((end, _)) => format!("{} .. ({} bytes in all)", &line[..end], line.len()),
-        None => line.to_string(),
-    }
-}
-
-fn run(program: &str, seed: u64, count: usize) -> io::Result<Option<Difference>> {
-    let mut child = Command::new(program)
-        .stdin(Stdio::piped())
-        .stdout(Stdio::piped())
-        .spawn()?;
-    let (Some(input), Some(output)) = (child.stdin.take(), child.stdout.take()) else {
-        return Err(io::Error::other("no pipes to the program"));
-    };
-    // The cases are made twice, once to be fed and once to be answered here,
-    // so neither side ever has to wait for the other.
-    let feeder = thread::spawn(move || feed(input, seed, count));
-    let compared = compare(BufReader::new(output), seed, count);
-    let ended = end(&mut child, !matches!(compared, Ok(None)));
-    let fed = feeder
-        .join()
-        .unwrap_or_else(|_| Err(io::Error::other("the feeding thread failed")));
-    let difference = compared?;
-    if difference.is_none() {
-        fed?;
-        ended?;
-    }
-    Ok(difference)
-}
-
-/// Writes the cases. A program that stops reading early shows up as missing
-/// answers, so that is no error here.
-fn feed(input: ChildStdin, seed: u64, count: usize) -> io::Result<()> {
-    let mut input = BufWriter::new(input);
-    let written = Generator::new(seed)
-        .take(count)
-        .try_for_each(|line| writeln!(input, "{line}"))
-        .and_then(|()| input.flush());
-    match written {
-        Err(error) if error.kind() == ErrorKind::BrokenPipe => Ok(()),
-        other => other,
-    }
-}
-
-/// Reads the program's answers beside ours, up to the first difference.
-fn compare(mut answers: impl BufRead, seed: u64, count: usize) -> io::Result<Option<Difference>> {
-    for (before, case) in Generator::new(seed).take(count).enumerate() {
-        let ours = answer_line(case.as_bytes());
-        let theirs = next_line(&mut answers)?;
-        if theirs.as_ref() != Some(&ours) {
-            return Ok(Some(Difference {
-                cases: before + 1,
-                case: Some(case),
-                ours: Some(ours),
-                theirs,
-            }));
+    fn of(count: usize) -> Progress {
+        Progress {
+            count,
+            is_shown: io::stderr().is_terminal(),
+            next: Instant::now() + Progress::PAUSE,
         }
     }
-    let extra = next_line(&mut answers)?;
-    Ok(extra.map(|line| Difference {
-        cases: count,
-        case: None,
-        ours: None,
-        theirs: Some(line),
-    }))
+
+    fn show(&mut self, done: usize) {
+        if self.is_shown && Instant::now() >= self.next {
+            self.next = Instant::now() + Progress::PAUSE;
+            write_over(&format!("{done} of {} cases", self.count));
+        }
+    }
+
+    fn clear(&self) {
+        if self.is_shown {
+            write_over("");
+        }
+    }
 }
 
-/// The next line without its ending byte; an ending is required, so a last
-/// line without one is shown as such.
-fn next_line(answers: &mut impl BufRead) -> io::Result<Option<String>> {
-    let mut line = Vec::new();
-    if answers.read_until(b'\n', &mut line)? == 0 {
-        return Ok(None);
-    }
-    let text = |bytes: &[u8]| String::from_utf8_lossy(bytes).into_owned();
-    Ok(Some(match line.strip_suffix(b"\n") {
-        Some(whole) => text(whole),
-        None => text(&line) + " (line not ended)",
-    }))
-}
-
-/// Waits for the program, or stops it if its answers are no longer wanted.
-fn end(child: &mut Child, stop: bool) -> io::Result<()> {
-    if stop {
-        // It may have ended already, which is as good.
-        let _ = child.kill();
-    }
-    let status = child.wait()?;
-    if !stop && !status.success() {
-        return Err(io::Error::other(format!("ended with {status}")));
-    }
-    Ok(())
+/// Puts a text in place of the terminal's last line. Progress that cannot be shown is no error.
+fn write_over(text: &str) {
+    let _ = write!(io::stderr(), "\r\x1b[K{text}");
 }

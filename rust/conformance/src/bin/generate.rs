@@ -1,25 +1,14 @@
-//! Writes fresh cases to standard output: `generate SEED COUNT`.
+//! `generate SEED COUNT`: the first COUNT lines of a seed's stream of cases.
 
-use independent::generator::Generator;
-use std::io::{self, BufWriter, ErrorKind, Write};
+use conformance::generator::Generator;
+use conformance::program::{seed_and_count, status, unless_reader_left};
+use std::io::{self, BufWriter, Write};
 use std::process::ExitCode;
 
 fn main() -> ExitCode {
-    let arguments: Vec<String> = std::env::args().skip(1).collect();
-    let [seed, count] = arguments.as_slice() else {
-        return usage();
-    };
-    let (Ok(seed), Ok(count)) = (seed.parse(), count.parse()) else {
-        return usage();
-    };
-    match write_cases(seed, count) {
-        Ok(()) => ExitCode::SUCCESS,
-        // Whoever reads may stop early.
-        Err(error) if error.kind() == ErrorKind::BrokenPipe => ExitCode::SUCCESS,
-        Err(error) => {
-            eprintln!("generate: {error}");
-            ExitCode::FAILURE
-        }
+    match seed_and_count("generate") {
+        Ok((seed, count)) => status("generate", unless_reader_left(write_cases(seed, count))),
+        Err(unusable) => unusable,
     }
 }
 
@@ -29,9 +18,4 @@ fn write_cases(seed: u64, count: usize) -> io::Result<()> {
         writeln!(output, "{line}")?;
     }
     output.flush()
-}
-
-fn usage() -> ExitCode {
-    eprintln!("usage: generate SEED COUNT");
-    ExitCode::from(2)
 }

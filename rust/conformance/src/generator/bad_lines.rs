@@ -60,6 +60,26 @@ pub const LINES: &[&str] = &[
     "jump_labelled - 1,-2 0 0 0",
     "jump_labelled - 01 0 0 0",
     "jump_labelled - 1;2 0 0 0",
+    "row_from",
+    "row_from labelled1",
+    "row_from labelled1 -",
+    "row_from - 0",
+    "row_from labelled - 0",
+    "row_from labelled2 - 0",
+    "row_from labelled01 - 0",
+    "row_from Waveform - 0",
+    "row_from waveform1 - 0",
+    "row_from bursts:0 - 0",
+    "row_from 1 - 0",
+    "row_from  - 0",
+    "row_from waveform 0",
+    "row_from waveform 0 0",
+    "row_from waveform - -",
+    "row_from waveform - -1",
+    "row_from waveform - 00",
+    "row_from waveform - 18446744073709551616",
+    "row_from waveform - 0 0",
+    "row_from_labelled - 0",
     "build_index - 1,4294967296",
     "build_index -",
     "check_index -  ",
@@ -90,14 +110,17 @@ pub fn spoilt(case: &str, random: &mut Random) -> String {
         2 => case.replacen(' ', "  ", 1),
         3 => format!("{case} 0"),
         4 => format!("x{case}"),
-        _ => case[..case.rfind(' ').expect("a case has arguments")].to_string(),
+        _ => case
+            .rsplit_once(' ')
+            .map_or("", |(front, _)| front)
+            .to_string(),
     }
 }
 
 #[cfg(test)]
 mod tests {
     use super::*;
-    use crate::cases::Case;
+    use crate::Case;
 
     #[test]
     fn none_of_them_is_a_case() {
@@ -109,7 +132,7 @@ mod tests {
     #[test]
     fn spoiling_always_works() {
         let mut random = Random::new(1);
-        for case in ["sample 1", "read_row_labelled - 0 0 0", "verdict 141 -5"] {
+        for case in ["sample 1", "row_from waveform - 0", "verdict 141 -5"] {
             assert!(Case::parse(case.as_bytes()).is_some());
             for _ in 0..40 {
                 let line = spoilt(case, &mut random);

@@ -1,16 +1,16 @@
 //! Row numbers, windows and lent memory around the edges of what fits.
 
+use super::files::RECORD;
 use super::random::Random;
-use crate::waveform::RECORD_BYTES;
-use crate::window::Window;
+use crestulbino::Window;
 
-const MOST: u64 = u64::MAX;
+const MOST: usize = usize::MAX;
 
 /// A window into a row of `length` bytes, or just outside it.
-pub fn window(random: &mut Random, length: u64) -> Window {
+pub fn window(random: &mut Random, length: usize) -> Window {
     if random.chance(30) {
-        let first = random.below(length + 1);
-        let count = random.below(length - first + 1).min(64);
+        let first = random.between(0, length);
+        let count = random.between(0, length - first).min(64);
         return Window::new(first, count);
     }
     let before = length.saturating_sub(1);
@@ -43,9 +43,9 @@ pub fn window(random: &mut Random, length: u64) -> Window {
 }
 
 /// The number of one of so many rows, or one that is missing.
-pub fn row(random: &mut Random, rows: u64) -> u64 {
+pub fn row(random: &mut Random, rows: usize) -> usize {
     if rows > 0 && random.chance(60) {
-        return random.below(rows);
+        return random.between(0, rows - 1);
     }
     // The large ones would turn to a small row or group in narrow numbers.
     let choices = [
@@ -65,8 +65,8 @@ pub fn row(random: &mut Random, rows: u64) -> u64 {
         (1 << 36) + 1,
         1 << 59,
         1 << 60,
-        MOST / RECORD_BYTES,
-        MOST / RECORD_BYTES + 1,
+        MOST / RECORD,
+        MOST / RECORD + 1,
         MOST - 1,
         MOST,
     ];
@@ -75,8 +75,8 @@ pub fn row(random: &mut Random, rows: u64) -> u64 {
 }
 
 /// A waveform row whose computed place would turn to one near the front.
-pub fn wrapping_row(random: &mut Random) -> u64 {
-    let beyond = MOST / RECORD_BYTES + 1;
+pub fn wrapping_row(random: &mut Random) -> usize {
+    let beyond = MOST / RECORD + 1;
     random.pick(&[1 << 59, 1 << 60, (1 << 59) + 1, beyond, beyond + 1])
 }
 
@@ -101,4 +101,30 @@ pub fn buffer(random: &mut Random, need: usize) -> Vec<u8> {
 pub fn list(random: &mut Random, need: usize) -> Vec<u32> {
     let room = room(random, need);
     (0..room).map(|_| random.draw() as u32).collect()
+}
+
+/// A place from which to go on in a file of so many bytes: one of those given, the file's end, a
+/// neighbour of either, or a number that is too large in some way.
+pub fn place(random: &mut Random, places: &[usize], end: usize) -> usize {
+    let known = if places.is_empty() || random.chance(15) {
+        end
+    } else {
+        random.pick(places)
+    };
+    match random.between(0, 99) {
+        0..=49 => known,
+        50..=59 => known.saturating_sub(random.between(1, 21)),
+        60..=69 => known + random.between(1, 21),
+        70..=84 => random.between(0, end),
+        // These would turn to a place inside in narrow numbers, or when a label is added.
+        85..=89 => known + random.pick(&[1 << 16, 1 << 32, 1 << 33, 1 << 63]),
+        _ => random.pick(&[
+            MOST,
+            MOST - 1,
+            MOST - 19,
+            MOST - 20,
+            MOST / RECORD * RECORD,
+            1 << 32,
+        ]),
+    }
 }

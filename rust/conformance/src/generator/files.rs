@@ -2,9 +2,13 @@
 
 use super::published;
 use super::random::Random;
-use crate::waveform::RECORD_BYTES;
+use independent::label::LABEL_BYTES;
+use independent::waveform::RECORD_BYTES;
 
-const LABEL: usize = 20;
+const LABEL: usize = LABEL_BYTES as usize;
+
+/// The bytes of a waveform row with its prefix.
+pub const RECORD: usize = RECORD_BYTES as usize;
 
 /// Bytes on both sides of what each field of a label allows.
 pub fn odd_bytes(position: usize) -> &'static [u8] {
@@ -39,6 +43,20 @@ impl LabelledFile {
     pub fn leaves(&self) -> Vec<Spot> {
         let is_leaf = |spot: &&Spot| !spot.is_group;
         self.spots.iter().filter(is_leaf).copied().collect()
+    }
+
+    /// Where labels begin, where their values begin, and where leaves end.
+    pub fn places(&self) -> Vec<usize> {
+        let of = |spot: &Spot| {
+            let value = spot.place + LABEL;
+            let end = if spot.is_group {
+                value
+            } else {
+                value + spot.length
+            };
+            [spot.place, value, end]
+        };
+        self.spots.iter().flat_map(of).collect()
     }
 
     pub fn index(&self) -> Vec<u32> {
@@ -230,7 +248,7 @@ fn known(bytes: Vec<u8>) -> LabelledFile {
     while place < bytes.len() {
         let digits = std::str::from_utf8(&bytes[place + 12..place + 20]);
         let length = digits.ok().and_then(|digits| digits.parse().ok());
-        let length: usize = length.expect("printed labels hold digits");
+        let length: usize = length.unwrap_or_default();
         let is_group = bytes[place + 5] == b'Z';
         let room = end - place - LABEL;
         spots.push(Spot {
@@ -415,19 +433,18 @@ fn set_length(bytes: &mut [u8], place: usize, length: usize) {
 /// A waveform file: mostly one to three rows, at times 32 or 33, at times
 /// some bytes more or less than whole rows.
 pub fn waveform(random: &mut Random) -> Vec<u8> {
-    let record = RECORD_BYTES as usize;
     let size = random.weighted(&[
         (4, 0),
-        (30, record),
-        (20, 2 * record),
-        (20, 3 * record),
+        (30, RECORD),
+        (20, 2 * RECORD),
+        (20, 3 * RECORD),
         (3, 1),
-        (4, record - 1),
-        (4, record + 1),
-        (2, record - 32),
-        (2, 2 * record - 1),
-        (8, 32 * record),
-        (6, 33 * record),
+        (4, RECORD - 1),
+        (4, RECORD + 1),
+        (2, RECORD - 32),
+        (2, 2 * RECORD - 1),
+        (8, 32 * RECORD),
+        (6, 33 * RECORD),
     ]);
     random.bytes(size)
 }
@@ -435,7 +452,7 @@ pub fn waveform(random: &mut Random) -> Vec<u8> {
 #[cfg(test)]
 mod tests {
     use super::*;
-    use crate::labelled::{check, leaves};
+    use independent::labelled::{check, leaves};
 
     #[test]
     fn spots_are_where_the_labels_are() {

@@ -6,12 +6,15 @@ pub mod files;
 pub mod published;
 pub mod random;
 
-use crate::altimeter::TABLE;
-use crate::cases::Case;
-use crate::waveform::{PREFIX_BYTES, RECORD_BYTES, SAMPLE_BYTES};
-use crate::window::Window;
-use files::LabelledFile;
+use crate::Case;
+use crestulbino::{Kind, Window};
+use files::{LabelledFile, RECORD};
+use independent::altimeter::TABLE;
+use independent::waveform::{PREFIX_BYTES, SAMPLE_BYTES};
 use random::{Deck, Random};
+
+const PREFIX: usize = PREFIX_BYTES as usize;
+const SAMPLES: usize = SAMPLE_BYTES as usize;
 
 /// An endless stream of lines, the same for the same seed. Cases of which each
 /// one matters are dealt from decks, so that a long stream holds all of them.
@@ -45,7 +48,7 @@ enum Fraction {
 type Call = fn(&mut Generator) -> Case;
 
 /// How often each call is asked.
-const CALLS: [(u64, Call); 17] = [
+const CALLS: [(u64, Call); 19] = [
     (8, Generator::read_label),
     (8, Generator::write_label),
     (9, Generator::check_labelled),
@@ -54,6 +57,8 @@ const CALLS: [(u64, Call); 17] = [
     (4, Generator::read_row_waveform),
     (18, Generator::jump_labelled),
     (4, Generator::jump_waveform),
+    (10, Generator::row_from_labelled),
+    (5, Generator::row_from_waveform),
     (8, Generator::build_index),
     (8, Generator::check_index),
     (4, Generator::keep_index),
@@ -143,7 +148,7 @@ impl Generator {
             }
             _ => {}
         }
-        let any = self.random.below(100_000_000);
+        let any = self.random.between(0, 99_999_999);
         let length = self.random.pick(&[
             0,
             1,
@@ -159,7 +164,7 @@ impl Generator {
             100_000_000,
             100_000_001,
             1 << 32,
-            u64::MAX,
+            usize::MAX,
         ]);
         let buffer = edges::buffer(&mut self.random, 20);
         Case::WriteLabel {
@@ -200,7 +205,7 @@ impl Generator {
         let (row, window) = self.labelled_row(&file);
         match self.random.between(0, 9) {
             0 => files::harm_group_length(&mut file, &mut self.random),
-            1 => files::stretch_leaf(&mut file, row as usize, &mut self.random),
+            1 => files::stretch_leaf(&mut file, row, &mut self.random),
             _ => {}
         }
         Case::JumpLabelled {
@@ -214,6 +219,35 @@ impl Generator {
     fn jump_waveform(&mut self) -> Case {
         let (file, row, window) = self.waveform_row();
         Case::JumpWaveform { file, row, window }
+    }
+
+    fn row_from_labelled(&mut self) -> Case {
+        let mut file = self.labelled_file(25);
+        match self.random.between(0, 9) {
+            0 | 1 => files::harm_group_length(&mut file, &mut self.random),
+            2 => {
+                let row = self.random.between(0, file.leaves().len());
+                files::stretch_leaf(&mut file, row, &mut self.random);
+            }
+            _ => {}
+        }
+        let from = edges::place(&mut self.random, &file.places(), file.bytes.len());
+        Case::RowFrom {
+            kind: Kind::Labelled,
+            file: file.bytes,
+            from,
+        }
+    }
+
+    fn row_from_waveform(&mut self) -> Case {
+        let file = files::waveform(&mut self.random);
+        let starts: Vec<usize> = (0..file.len()).step_by(RECORD).collect();
+        let from = edges::place(&mut self.random, &starts, file.len());
+        Case::RowFrom {
+            kind: Kind::Waveform,
+            file,
+            from,
+        }
     }
 
     fn build_index(&mut self) -> Case {
@@ -328,26 +362,26 @@ impl Generator {
     }
 
     /// A row number and a window that suits the row as it was before damage.
-    fn labelled_row(&mut self, file: &LabelledFile) -> (u64, Window) {
+    fn labelled_row(&mut self, file: &LabelledFile) -> (usize, Window) {
         let leaves = file.leaves();
-        let row = edges::row(&mut self.random, leaves.len() as u64);
-        let length = leaves.get(row as usize).map_or(3, |leaf| leaf.length);
-        (row, edges::window(&mut self.random, length as u64))
+        let row = edges::row(&mut self.random, leaves.len());
+        let length = leaves.get(row).map_or(3, |leaf| leaf.length);
+        (row, edges::window(&mut self.random, length))
     }
 
-    fn waveform_row(&mut self) -> (Vec<u8>, u64, Window) {
+    fn waveform_row(&mut self) -> (Vec<u8>, usize, Window) {
         let file = files::waveform(&mut self.random);
-        let rows = file.len() as u64 / RECORD_BYTES;
+        let rows = file.len() / RECORD;
         if rows > 32 && self.random.chance(60) {
             // The first row that begins at a place too large for 16 bits.
-            let window = edges::window(&mut self.random, SAMPLE_BYTES);
+            let window = edges::window(&mut self.random, SAMPLES);
             return (file, 32, window);
         }
         if rows == 32 && self.random.chance(70) {
             // Around the first such place, which is in the row before.
-            let turn = 65_536 - 31 * RECORD_BYTES - PREFIX_BYTES;
-            let first = turn - 2 + self.random.below(5);
-            let window = Window::new(first, self.random.below(6));
+            let turn = 65_536 - 31 * RECORD - PREFIX;
+            let first = turn - 2 + self.random.between(0, 4);
+            let window = Window::new(first, self.random.between(0, 5));
             return (file, 31, window);
         }
         let row = if self.random.chance(10) {
@@ -355,7 +389,7 @@ impl Generator {
         } else {
             edges::row(&mut self.random, rows)
         };
-        let window = edges::window(&mut self.random, SAMPLE_BYTES);
+        let window = edges::window(&mut self.random, SAMPLES);
         (file, row, window)
     }
 
@@ -550,7 +584,18 @@ fn unknown_elements() -> Vec<u64> {
 #[cfg(test)]
 mod tests {
     use super::*;
+    use crate::answer_line;
+    use crate::library::INDEPENDENT;
     use std::collections::HashMap;
+
+    /// The call of a line, with its kind where that is an argument.
+    fn called(line: &str) -> String {
+        let mut words = line.split(' ');
+        match (words.next(), words.next()) {
+            (Some("row_from"), Some(kind)) => format!("row_from {kind}"),
+            (call, _) => call.unwrap_or_default().to_string(),
+        }
+    }
 
     #[test]
     fn the_stream_depends_on_the_seed_alone() {
@@ -585,8 +630,8 @@ mod tests {
     fn every_refusal_of_every_call_comes_up() {
         let mut seen: HashMap<(String, String), u32> = HashMap::new();
         for line in Generator::new(5).take(12_000) {
-            let answer = crate::cases::answer_line(line.as_bytes());
-            let call = line.split(' ').next().unwrap_or_default().to_string();
+            let answer = answer_line(&INDEPENDENT, line.as_bytes());
+            let call = called(&line);
             let mut words = answer.split(' ');
             let kind = match (words.next(), words.next()) {
                 (Some("ref"), Some(number)) => number.to_string(),
@@ -594,7 +639,7 @@ mod tests {
             };
             *seen.entry((call, kind)).or_default() += 1;
         }
-        let expected: [(&str, &[&str]); 17] = [
+        let expected: [(&str, &[&str]); 19] = [
             ("read_label", &["ok", "1", "2", "3"]),
             ("write_label", &["ok", "2", "15", "8"]),
             ("check_labelled", &["ok", "1", "2", "3", "4", "5"]),
@@ -606,6 +651,8 @@ mod tests {
             ("read_row_waveform", &["ok", "12", "6", "7"]),
             ("jump_labelled", &["ok", "6", "11", "1", "2", "3", "4", "7"]),
             ("jump_waveform", &["ok", "12", "6", "7"]),
+            ("row_from labelled1", &["ok", "6", "1", "2", "3", "4"]),
+            ("row_from waveform", &["ok", "12", "6"]),
             ("build_index", &["ok", "1", "2", "3", "4", "5", "8"]),
             ("check_index", &["ok", "1", "2", "3", "4", "5", "11"]),
             ("keep_index", &["ok", "8"]),

@@ -41,13 +41,15 @@ impl Random {
     pub fn weighted<T: Copy>(&mut self, choices: &[(u64, T)]) -> T {
         let total = choices.iter().map(|(weight, _)| weight).sum();
         let mut left = self.below(total);
+        let mut chosen = choices[0].1;
         for &(weight, choice) in choices {
+            chosen = choice;
             if left < weight {
-                return choice;
+                break;
             }
             left -= weight;
         }
-        unreachable!("the weights add up to more than what was drawn")
+        chosen
     }
 
     pub fn byte(&mut self) -> u8 {
