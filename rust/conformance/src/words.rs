@@ -33,7 +33,7 @@ pub(crate) fn read_bytes(word: &[u8]) -> Option<Vec<u8>> {
     if word == NONE.as_bytes() {
         return Some(Vec::new());
     }
-    if word.is_empty() || word.len() % 2 != 0 {
+    if word.is_empty() || !word.len().is_multiple_of(2) {
         return None;
     }
     let pairs = word.chunks_exact(2);

@@ -1,4 +1,5 @@
-//! The second implementation beside itself, on generated files: the pass beside a recursion, the jump beside reading.
+//! The second implementation beside itself, on generated files: the pass beside a recursion, the
+//! jump beside reading.
 
 use conformance::generator::{files, random::Random};
 use independent::refusal::{Reason, Refusal};

@@ -71,6 +71,7 @@ impl Row<'_> {
 /// assert_eq!(refused.refusal, Refusal::Ragged);
 /// # Ok::<(), crestulbino::Refused>(())
 /// ```
+#[inline]
 pub fn check(kind: Kind, file: &[u8]) -> Result<usize, Refused> {
     let mut rows = 0;
     match kind {
@@ -94,6 +95,7 @@ pub fn check(kind: Kind, file: &[u8]) -> Result<usize, Refused> {
 /// assert_eq!((row.place, row.bytes), (43, &b"de"[..]));
 /// # Ok::<(), crestulbino::Refused>(())
 /// ```
+#[inline]
 pub fn read_row(kind: Kind, file: &[u8], row: usize, window: Window) -> Result<Row<'_>, Refused> {
     let (row, first, count) = (row as u64, window.first as u64, window.count as u64);
     shown(file, |place, shown| match kind {
@@ -118,6 +120,7 @@ pub fn read_row(kind: Kind, file: &[u8], row: usize, window: Window) -> Result<R
 /// assert_eq!((row.place, row.bytes), (44, &b"e"[..]));
 /// # Ok::<(), crestulbino::Refused>(())
 /// ```
+#[inline]
 pub fn jump_labelled<'a>(
     file: &'a [u8],
     list: &[u32],
@@ -143,6 +146,7 @@ pub fn jump_labelled<'a>(
 /// assert_eq!((row.place, row.bytes), (65_536, &[128; 4][..]));
 /// # Ok::<(), crestulbino::Refused>(())
 /// ```
+#[inline]
 pub fn jump_waveform(file: &[u8], row: usize, window: Window) -> Result<Row<'_>, Refused> {
     let (row, first, count) = (row as u64, window.first as u64, window.count as u64);
     shown(file, |place, shown| {
@@ -169,6 +173,7 @@ pub fn jump_waveform(file: &[u8], row: usize, window: Window) -> Result<Row<'_>,
 /// assert_eq!(refused.refusal, Refusal::NoRow);
 /// # Ok::<(), crestulbino::Refused>(())
 /// ```
+#[inline]
 pub fn row_from(kind: Kind, file: &[u8], from: usize) -> Result<Row<'_>, Refused> {
     let from = from as u64;
     shown(file, |place, shown| match kind {
@@ -192,6 +197,7 @@ pub fn row_from(kind: Kind, file: &[u8], from: usize) -> Result<Row<'_>, Refused
 /// assert_eq!(rows.next(), None);
 /// # Ok::<(), crestulbino::Refused>(())
 /// ```
+#[inline]
 pub fn rows(kind: Kind, file: &[u8]) -> Result<Rows<'_>, Refused> {
     Ok(Rows {
         kind,
@@ -213,6 +219,7 @@ pub struct Rows<'a> {
 impl<'a> Iterator for Rows<'a> {
     type Item = Row<'a>;
 
+    #[inline]
     fn next(&mut self) -> Option<Row<'a>> {
         self.left = self.left.checked_sub(1)?;
         let row = row_from(self.kind, self.file, self.from);
@@ -231,6 +238,7 @@ impl ExactSizeIterator for Rows<'_> {}
 impl FusedIterator for Rows<'_> {}
 
 /// Makes a call that answers a place and a count, and borrows that part of the file.
+#[inline]
 fn shown(
     file: &[u8],
     call: impl FnOnce(&mut u64, &mut u64) -> Outcome,

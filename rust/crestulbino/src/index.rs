@@ -33,6 +33,7 @@ pub struct Built {
 /// assert_eq!(list, [20, 7]);
 /// # Ok::<(), crestulbino::Refused>(())
 /// ```
+#[inline]
 pub fn build_index(file: &[u8], list: &mut [u32]) -> Result<Built, Refused> {
     let (mut entries, mut rows) = (0, 0);
     ffi::build_index(file, list, &mut entries, &mut rows).result()?;
@@ -54,6 +55,7 @@ pub fn build_index(file: &[u8], list: &mut [u32]) -> Result<Built, Refused> {
 /// assert_eq!(check_index(file, &[3]).unwrap_err().refusal, Refusal::BadIndex);
 /// # Ok::<(), crestulbino::Refused>(())
 /// ```
+#[inline]
 pub fn check_index(file: &[u8], list: &[u32]) -> Result<(), Refused> {
     ffi::check_index(file, list).result()
 }
@@ -71,6 +73,7 @@ pub fn check_index(file: &[u8], list: &[u32]) -> Result<(), Refused> {
 /// assert_eq!(out, [6, 0, 0, 0, 1, 0, 20, 0, 0, 0]);
 /// # Ok::<(), crestulbino::Refused>(())
 /// ```
+#[inline]
 pub fn keep_index(list: &[u32], out: &mut [u8]) -> Result<usize, Refused> {
     let mut written = 0;
     ffi::keep_index(list, out, &mut written).result()?;
@@ -88,6 +91,7 @@ pub fn keep_index(list: &[u32], out: &mut [u8]) -> Result<usize, Refused> {
 /// assert_eq!(list, [20, 7]);
 /// # Ok::<(), crestulbino::Refused>(())
 /// ```
+#[inline]
 pub fn load_kept(bytes: &[u8], list: &mut [u32]) -> Result<usize, Refused> {
     let mut entries = 0;
     ffi::load_kept(bytes, list, &mut entries).result()?;

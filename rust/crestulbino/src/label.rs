@@ -29,6 +29,7 @@ pub struct Label {
 /// assert_eq!(label.length, 3);
 /// # Ok::<(), crestulbino::Refused>(())
 /// ```
+#[inline]
 pub fn read_label(bytes: &[u8]) -> Result<Label, Refused> {
     let (mut agency, mut class, mut description, mut length) = ([0; 4], 0, [0; 4], 0);
     ffi::read_label(
@@ -58,6 +59,7 @@ pub fn read_label(bytes: &[u8]) -> Result<Label, Refused> {
 /// assert_eq!(&out, b"NJPL1I00DEMO00000003..");
 /// # Ok::<(), crestulbino::Refused>(())
 /// ```
+#[inline]
 pub fn write_label(head: &[u8], length: usize, out: &mut [u8]) -> Result<usize, Refused> {
     let mut written = 0;
     ffi::write_label(head, length as u64, out, &mut written).result()?;

@@ -233,8 +233,8 @@ fn read_label() {
 #[test]
 fn write_label() {
     let label = || Ok(b"NJPL1I00DEMO00000003".to_vec());
-    let cases: [(&[u8], u64, usize, Result<Vec<u8>, Outcome>); 8] = [
-        (b"NJPL1I00DEMO", 3, 20, label()),
+    for (head, length, size, expected) in [
+        (&b"NJPL1I00DEMO"[..], 3, 20, label()),
         (b"NJPL1I00DEMO", 3, 23, label()),
         (b"NJPL1I00DEM", 3, 23, Err(refused(2, 0))),
         (b"NJPL1I00DEMo", 3, 23, Err(refused(2, 0))),
@@ -242,8 +242,7 @@ fn write_label() {
         (b"NJPL1I00DEMO", u64::MAX, 23, Err(refused(15, 0))),
         (b"NJPL1I00DEMO", 3, 19, Err(refused(8, 0))),
         (b"NJPL1I00DEMO", 3, 0, Err(refused(8, 0))),
-    ];
-    for (head, length, size, expected) in cases {
+    ] {
         fills("write_label", size, expected, |out, written| {
             ffi::write_label(head, length, out, written)
         });

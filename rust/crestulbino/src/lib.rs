@@ -1,9 +1,11 @@
-//! Labelled radar files (Magellan F-BIDR, TOPEX) and waveform files (Cassini RPWS): rows, their places and their bytes.
+//! Labelled radar files (Magellan F-BIDR, TOPEX) and waveform files (Cassini RPWS): rows, their
+//! places and their bytes.
 //!
-//! The work is done by a library that is proved in Rattle; this crate makes its C boundary safe to call. A file is a slice of bytes of
-//! a [`Kind`] that the caller names. Every call takes any bytes and any numbers, and answers or gives one [`Refused`]: a
-//! number and a place. Nothing is copied: a [`Row`] borrows its bytes from the file. A refused call has changed
-//! nothing that was lent to it, and a call that writes fills the front of what it is lent and answers how much.
+//! The work is done by a library that is proved in Rattle; this crate makes its C boundary safe to
+//! call. A file is a slice of bytes of a [`Kind`] that the caller names. Every call takes any bytes
+//! and any numbers, and answers or gives one [`Refused`]: a number and a place. Nothing is copied:
+//! a [`Row`] borrows its bytes from the file. A refused call has changed nothing that was lent to
+//! it, and a call that writes fills the front of what it is lent and answers how much.
 //!
 //! ```
 //! use crestulbino::{build_index, jump_labelled, rows, Kind, Window};
@@ -20,14 +22,15 @@
 //! # Ok::<(), crestulbino::Refused>(())
 //! ```
 //!
-//! Places, row numbers and counts are `usize`, which has 64 bits wherever this crate can be built. A place is the
-//! number of bytes before it in what was lent.
+//! Places, row numbers and counts are `usize`, which has 64 bits wherever this crate can be built.
+//! A place is the number of bytes before it in what was lent.
 //!
 //! # The archive
 //!
-//! `rt staticlib capi` proves the library and writes `target/staticlib/libcapi.a`, where the build of this crate looks for it; an
-//! absolute path in `CRESTULBINO_LIB_DIR` names another folder. A call panics only where that archive does not behave as its
-//! header says, which means that it is of another version.
+//! `rt staticlib capi` proves the library and writes `target/staticlib/libcapi.a`, where the build
+//! of this crate looks for it; an absolute path in `CRESTULBINO_LIB_DIR` names another folder. A
+//! call panics only where that archive does not behave as its header says, which means that it is
+//! of another version.
 
 #![deny(unsafe_code)]
 #![warn(missing_docs)]

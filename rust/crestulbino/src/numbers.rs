@@ -8,6 +8,7 @@ use crate::refusal::{other_version, Refused};
 /// ```
 /// assert_eq!([0, 127, 128, 255].map(crestulbino::sample), [-255, -1, 1, 255]);
 /// ```
+#[inline]
 pub fn sample(sample: u8) -> i64 {
     ffi::sample(sample)
 }
@@ -20,6 +21,7 @@ pub fn sample(sample: u8) -> i64 {
 /// assert_eq!(crestulbino::vax_f(&[0x80, 0x40, 0, 0])?, 1.0);
 /// # Ok::<(), crestulbino::Refused>(())
 /// ```
+#[inline]
 pub fn vax_f(bytes: &[u8]) -> Result<f64, Refused> {
     let mut number = 0.0;
     ffi::vax_f(bytes, &mut number).result()?;
@@ -35,6 +37,7 @@ pub fn vax_f(bytes: &[u8]) -> Result<f64, Refused> {
 /// assert_eq!(crestulbino::vax_d(&[0x80, 0xc0, 0, 0, 0, 0, 0, 0])?, -1.0);
 /// # Ok::<(), crestulbino::Refused>(())
 /// ```
+#[inline]
 pub fn vax_d(bytes: &[u8]) -> Result<f64, Refused> {
     let mut number = 0.0;
     ffi::vax_d(bytes, &mut number).result()?;
@@ -65,6 +68,7 @@ pub struct Opening {
 /// assert_eq!((opening.orbit, opening.start, opening.stop), (376, 1.0, -1.0));
 /// # Ok::<(), crestulbino::Refused>(())
 /// ```
+#[inline]
 pub fn opening(bytes: &[u8]) -> Result<Opening, Refused> {
     let (mut orbit, mut start, mut stop) = (0, 0.0, 0.0);
     ffi::opening(bytes, &mut orbit, &mut start, &mut stop).result()?;
@@ -94,6 +98,7 @@ pub enum Verdict {
 /// assert_eq!(verdict(141, 2_001)?, Verdict::Above);
 /// # Ok::<(), crestulbino::Refused>(())
 /// ```
+#[inline]
 pub fn verdict(element: u64, value: i64) -> Result<Verdict, Refused> {
     let mut verdict = 0;
     ffi::verdict(element, value, &mut verdict).result()?;

@@ -79,9 +79,8 @@ impl Refusal {
     /// assert_eq!(Refusal::from_number(0), None);
     /// ```
     pub fn from_number(number: u64) -> Option<Refusal> {
-        Refusal::ALL
-            .into_iter()
-            .find(|refusal| refusal.number() == number)
+        let before = usize::try_from(number).ok()?.checked_sub(1)?;
+        Refusal::ALL.get(before).copied()
     }
 
     /// The published name.
@@ -174,16 +173,20 @@ impl fmt::Display for Refused {
 impl Error for Refused {}
 
 impl Outcome {
-    /// What the call came to, once its number is taken for a refusal.
+    /// What the call came to.
+    #[inline]
     pub(crate) fn result(self) -> Result<(), Refused> {
         if self.refusal == 0 {
             return Ok(());
         }
-        let refusal = Refusal::from_number(self.refusal).unwrap_or_else(|| other_version());
-        Err(Refused {
-            refusal,
+        Err(self.refused())
+    }
+
+    fn refused(self) -> Refused {
+        Refused {
+            refusal: Refusal::from_number(self.refusal).unwrap_or_else(|| other_version()),
             place: self.place as usize,
-        })
+        }
     }
 }
 
