@@ -393,17 +393,15 @@ fn harm_byte(label: &mut [u8], position: usize, random: &mut Random) {
 }
 
 /// Makes a group claim more than the file has, or puts a wrong digit into its
-/// length. The jump tells these apart.
-pub fn harm_group_length(file: &mut LabelledFile, random: &mut Random) {
+/// length. The jump tells these apart. Gives the place of the group, if there is one.
+pub fn harm_group_length(file: &mut LabelledFile, random: &mut Random) -> Option<usize> {
     let groups = file.spots.iter().filter(|spot| spot.is_group);
     let groups: Vec<usize> = groups.map(|spot| spot.place).collect();
     if groups.is_empty() {
-        return;
+        return None;
     }
     let place = random.pick(&groups);
-    let Some(to_file_end) = file.bytes.len().checked_sub(place + LABEL) else {
-        return;
-    };
+    let to_file_end = file.bytes.len().checked_sub(place + LABEL)?;
     if random.chance(30) {
         let position = random.between(12, LABEL - 1);
         harm_byte(&mut file.bytes[place..], position, random);
@@ -411,17 +409,17 @@ pub fn harm_group_length(file: &mut LabelledFile, random: &mut Random) {
         let length = random.pick(&[to_file_end + 1, 99_999_999, 0]);
         set_length(&mut file.bytes, place, length);
     }
+    Some(place)
 }
 
-/// Makes a leaf end just at, or beyond, the end of the file.
-pub fn stretch_leaf(file: &mut LabelledFile, row: usize, random: &mut Random) {
-    let Some(leaf) = file.leaves().get(row).copied() else {
-        return;
-    };
-    if let Some(to_file_end) = file.bytes.len().checked_sub(leaf.place + LABEL) {
-        let length = to_file_end + random.pick(&[0, 1, 1, 20]);
-        set_length(&mut file.bytes, leaf.place, length);
-    }
+/// Makes a leaf end just at, or beyond, the end of the file. Gives the place of its label, if
+/// there is one.
+pub fn stretch_leaf(file: &mut LabelledFile, row: usize, random: &mut Random) -> Option<usize> {
+    let leaf = file.leaves().get(row).copied()?;
+    let to_file_end = file.bytes.len().checked_sub(leaf.place + LABEL)?;
+    let length = to_file_end + random.pick(&[0, 1, 1, 20]);
+    set_length(&mut file.bytes, leaf.place, length);
+    Some(leaf.place)
 }
 
 /// Rewrites the digits of the label at `place`.

@@ -206,8 +206,8 @@ impl Generator {
         match self.random.between(0, 9) {
             0 => files::harm_group_length(&mut file, &mut self.random),
             1 => files::stretch_leaf(&mut file, row, &mut self.random),
-            _ => {}
-        }
+            _ => None,
+        };
         Case::JumpLabelled {
             file: file.bytes,
             list,
@@ -223,15 +223,19 @@ impl Generator {
 
     fn row_from_labelled(&mut self) -> Case {
         let mut file = self.labelled_file(25);
-        match self.random.between(0, 9) {
+        let harmed = match self.random.between(0, 9) {
             0 | 1 => files::harm_group_length(&mut file, &mut self.random),
             2 => {
                 let row = self.random.between(0, file.leaves().len());
-                files::stretch_leaf(&mut file, row, &mut self.random);
+                files::stretch_leaf(&mut file, row, &mut self.random)
             }
-            _ => {}
-        }
-        let from = edges::place(&mut self.random, &file.places(), file.bytes.len());
+            _ => None,
+        };
+        let places = match harmed {
+            Some(place) if self.random.chance(60) => vec![place],
+            _ => file.places(),
+        };
+        let from = edges::place(&mut self.random, &places, file.bytes.len());
         Case::RowFrom {
             kind: Kind::Labelled,
             file: file.bytes,
