@@ -127,7 +127,7 @@ crest_result crest_read_label(const uint8_t *bytes, size_t bytes_len, uint8_t ag
                               uint8_t description[4], uint64_t *length);
 
 /*
- * label::write_label. Writes a label of the twelve bytes head, for length bytes behind it.
+ * label_writer::write_label. Writes a label of the twelve bytes head, for length bytes behind it.
  * Refuses: BADLABEL (also where head_len is not 12), TOOLONG, SMALL.
  * Writes: the first 20 bytes of out; written, which is 20.
  */
