@@ -2,7 +2,7 @@
  * Lists the rows of a labelled file, then builds its index, jumps to a row and shows COUNT of its bytes, from byte FIRST on:
  *
  *     cc -std=c11 -Wall -Wextra -Wpedantic -Iinclude examples/c/list_and_jump.c target/staticlib/libcapi.a -o list_and_jump
- *     ./list_and_jump crates/list_samples/data/volume_header.sfdu 1 10 7
+ *     ./list_and_jump crates/samples/data/volume_header.sfdu 1 10 7
  *
  * The exit status is 0; 1 where the library refused; 2 where the arguments or the file could not be read.
  */
