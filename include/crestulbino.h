@@ -1,0 +1,274 @@
+/*
+ * crestulbino.h: labelled radar files and waveform files, from C11 and C++17.
+ *
+ * Link with target/staticlib/libcapi.a, which `rt staticlib capi` proves and builds (x86-64).
+ *
+ * Every call takes any bytes and any numbers. It answers, or it gives one refusal: a number and a place. On a refusal it has
+ * written nothing, neither to lent memory nor through a pointer. On an answer it has written every number that it has a pointer
+ * for, and the front of the memory lent to it; what stands behind that front is unchanged. No call allocates, and none keeps
+ * anything, so that calls may run at the same time.
+ *
+ * What a caller owes:
+ *  - a pointer with a length behind it is good for that many elements, and is aligned for them; only a pointer with length 0
+ *    may be null;
+ *  - a pointer without a length is not null: to one number, or to as many bytes as its declaration says;
+ *  - outputs overlap neither one another nor an input, and nobody else writes to an input while a call runs;
+ *  - a file is of the kind that the call's name says: no call can tell the kinds apart.
+ *
+ * A place is the number of bytes before it in what was lent. A row's answer is the place of its window's first byte, and how many
+ * bytes the window shows: they are file[place] to file[place + shown - 1]. Nothing is copied.
+ *
+ * The numbers of the refusals are in enum crest_refusal. "Refuses:" gives the refusals of a call in the order in which
+ * they are tested; their place is 0 where nothing else is said.
+ */
+#ifndef CRESTULBINO_H
+#define CRESTULBINO_H
+
+#include <stddef.h>
+#include <stdint.h>
+
+#ifdef __cplusplus
+extern "C" {
+#endif
+
+/* What every call but crest_sample returns. */
+typedef struct crest_result {
+    uint64_t refusal; /* 0: the call answered; else one of enum crest_refusal */
+    uint64_t place;   /* of the fault; 0 where the call answered */
+} crest_result;
+
+enum crest_refusal {
+    CREST_SHORT = 1,
+    CREST_BADLABEL = 2,
+    CREST_BADLENGTH = 3,
+    CREST_OVERRUN = 4,
+    CREST_DEEP = 5,
+    CREST_NOROW = 6,
+    CREST_NOPART = 7,
+    CREST_SMALL = 8,
+    CREST_RESERVED = 9,
+    CREST_UNKNOWN = 10,
+    CREST_BADINDEX = 11,
+    CREST_RAGGED = 12,
+    CREST_BADKEPT = 13,
+    CREST_TOOBIG = 14,
+    CREST_TOOLONG = 15
+};
+
+/* What crest_verdict answers. */
+enum crest_verdict_number {
+    CREST_BELOW = 0,
+    CREST_INSIDE = 1,
+    CREST_ABOVE = 2
+};
+
+/* The bytes of a label, and with it of what crest_write_label writes. */
+#define CREST_LABEL_BYTES 20u
+
+/* One entry of an index stands for so many rows: n rows have (n + 15) / 16 entries. */
+#define CREST_ROWS_PER_ENTRY 16u
+
+/* The bytes of a kept index in front of its entries, of four bytes each. */
+#define CREST_KEPT_FRONT_BYTES 6u
+
+/* A refusal with its name and a sentence in words, for crest_refusal_name and crest_refusal_text. */
+typedef struct crest_refusal_words {
+    const char *name;
+    const char *text;
+} crest_refusal_words;
+
+/* The words of a refusal's number. 0 and numbers of no refusal have words too, so that any number can be shown. */
+static inline crest_refusal_words crest_words_of(uint64_t number)
+{
+    static const crest_refusal_words words[] = {
+        {"ANSWERED", "the call answered"},
+        {"SHORT", "too few bytes remain for a label or a number"},
+        {"BADLABEL", "bytes 0 to 11 are not those of a label"},
+        {"BADLENGTH", "a byte of the label's length is no digit"},
+        {"OVERRUN", "the value ends beyond its enclosing value or the file"},
+        {"DEEP", "a label stands deeper than depth 8"},
+        {"NOROW", "no row has this number or begins from this place on"},
+        {"NOPART", "the window does not fit the row"},
+        {"SMALL", "the lent output is too short"},
+        {"RESERVED", "the VAX number has sign 1 and exponent 0"},
+        {"UNKNOWN", "the element has no limits"},
+        {"BADINDEX", "the list is not the index of this file"},
+        {"RAGGED", "the waveform file is no multiple of 2,080 bytes"},
+        {"BADKEPT", "these bytes are no kept index"},
+        {"TOOBIG", "the file has more than 4,294,967,295 bytes, or the index too many entries to be kept"},
+        {"TOOLONG", "the label cannot hold a length of more than 99,999,999 bytes"},
+        {"NUMBER", "no refusal has this number"}
+    };
+    const uint64_t last = sizeof words / sizeof words[0] - 1;
+    return words[number < last ? number : last];
+}
+
+/* The name of a refusal, as "BADLABEL". */
+static inline const char *crest_refusal_name(uint64_t number)
+{
+    return crest_words_of(number).name;
+}
+
+/* A refusal in words, as "bytes 0 to 11 are not those of a label". */
+static inline const char *crest_refusal_text(uint64_t number)
+{
+    return crest_words_of(number).text;
+}
+
+/* ---- Labels ---- */
+
+/*
+ * label::read_label. Reads the label at the front of bytes; what follows it is ignored. length is the number of bytes behind the
+ * label that it claims, and is compared with nothing.
+ * Refuses: SHORT, BADLABEL, BADLENGTH.
+ * Writes: agency, class_, description, length.
+ */
+crest_result crest_read_label(const uint8_t *bytes, size_t bytes_len, uint8_t agency[4], uint8_t *class_,
+                              uint8_t description[4], uint64_t *length);
+
+/*
+ * label_writer::write_label. Writes a label of the twelve bytes head, for length bytes behind it.
+ * Refuses: BADLABEL (also where head_len is not 12), TOOLONG, SMALL.
+ * Writes: the first 20 bytes of out; written, which is 20.
+ */
+crest_result crest_write_label(const uint8_t *head, size_t head_len, uint64_t length, uint8_t *out, size_t out_len,
+                               uint64_t *written);
+
+/* ---- Files: check, read from the first byte, jump, go on ---- */
+
+/*
+ * reader::check of a labelled file. Checks the whole file, as deep as it goes.
+ * Refuses: TOOBIG; then at the first faulty label, with its place: DEEP, SHORT, BADLABEL, BADLENGTH, OVERRUN.
+ * Writes: rows, how many rows the file has.
+ */
+crest_result crest_check_labelled(const uint8_t *file, size_t file_len, uint64_t *rows);
+
+/*
+ * reader::check of a waveform file.
+ * Refuses: TOOBIG, RAGGED.
+ * Writes: rows, how many rows the file has.
+ */
+crest_result crest_check_waveform(const uint8_t *file, size_t file_len, uint64_t *rows);
+
+/*
+ * reader::read_row of a labelled file. Reads count bytes of a row, from its byte first on, going through the file
+ * from its first byte; rows are numbered from 0.
+ * Refuses: as crest_check_labelled, wherever in the file the fault stands; then NOROW, NOPART.
+ * Writes: place and shown; shown is count.
+ */
+crest_result crest_read_row_labelled(const uint8_t *file, size_t file_len, uint64_t row, uint64_t first, uint64_t count,
+                                     uint64_t *place, uint64_t *shown);
+
+/*
+ * reader::read_row of a waveform file. Passes 2,080 bytes for each earlier row.
+ * Refuses: TOOBIG, RAGGED, NOROW, NOPART.
+ * Writes: place and shown; shown is count.
+ */
+crest_result crest_read_row_waveform(const uint8_t *file, size_t file_len, uint64_t row, uint64_t first, uint64_t count,
+                                     uint64_t *place, uint64_t *shown);
+
+/*
+ * reader::jump_row of a labelled file. Takes the entry of the row's group of 16 from list and walks on from there. With a list that
+ * crest_check_index accepts, the answer is that of crest_read_row_labelled; with another one it is of no use to a reader.
+ * Refuses: TOOBIG; NOROW for a missing entry; BADINDEX for an entry beyond the file's length; then as the walk meets it,
+ * SHORT, BADLABEL, BADLENGTH, OVERRUN with the label's place, or NOROW at the end of the file; NOPART.
+ * Writes: place and shown; shown is count.
+ */
+crest_result crest_jump_labelled(const uint8_t *file, size_t file_len, const uint32_t *list, size_t list_len, uint64_t row,
+                                 uint64_t first, uint64_t count, uint64_t *place, uint64_t *shown);
+
+/*
+ * reader::jump_row of a waveform file. Computes the row's place.
+ * Refuses: TOOBIG, RAGGED, NOROW, NOPART.
+ * Writes: place and shown; shown is count.
+ */
+crest_result crest_jump_waveform(const uint8_t *file, size_t file_len, uint64_t row, uint64_t first, uint64_t count,
+                                 uint64_t *place, uint64_t *shown);
+
+/*
+ * reader::row_from of a labelled file. Gives the whole row whose label comes first from the place from on. To go through an accepted
+ * file row by row, begin at 0 and go on at place + shown of each row, until NOROW.
+ * Refuses: TOOBIG; NOROW for a place beyond the file's length; then as the walk meets it, SHORT, BADLABEL, BADLENGTH,
+ * OVERRUN with the label's place, or NOROW at the end of the file.
+ * Writes: place and shown; shown is the row's length.
+ */
+crest_result crest_row_from_labelled(const uint8_t *file, size_t file_len, uint64_t from, uint64_t *place, uint64_t *shown);
+
+/*
+ * reader::row_from of a waveform file. Gives the whole row that begins, with its prefix, at the place from. To go through a file row by
+ * row, begin at 0 and go on at place + shown of each row, until NOROW.
+ * Refuses: TOOBIG, RAGGED; NOROW where from is no multiple of 2,080, or at or beyond the end of the file.
+ * Writes: place, which is from + 32, and shown, which is 2,048.
+ */
+crest_result crest_row_from_waveform(const uint8_t *file, size_t file_len, uint64_t from, uint64_t *place, uint64_t *shown);
+
+/* ---- The index of a labelled file ---- */
+
+/*
+ * row_index::build_index. Writes the places of the labels of rows 0, 16, 32 and so on.
+ * Refuses: as crest_check_labelled; then SMALL.
+ * Writes: the first entries numbers of list; entries and rows, how many of each the file has.
+ */
+crest_result crest_build_index(const uint8_t *file, size_t file_len, uint32_t *list, size_t list_len, uint64_t *entries,
+                               uint64_t *rows);
+
+/*
+ * row_index::check_index. Answers exactly when the file is accepted and the whole list is its index.
+ * Refuses: as crest_check_labelled; then BADINDEX.
+ * Writes: nothing.
+ */
+crest_result crest_check_index(const uint8_t *file, size_t file_len, const uint32_t *list, size_t list_len);
+
+/*
+ * kept::keep. Writes an index as bytes to keep: 6, and 4 for each entry.
+ * Refuses: TOOBIG for more than 1,073,741,823 entries; SMALL.
+ * Writes: the first written bytes of out; written.
+ */
+crest_result crest_keep_index(const uint32_t *list, size_t list_len, uint8_t *out, size_t out_len, uint64_t *written);
+
+/*
+ * kept::load. Reads an index that was kept. Whether it belongs to a file, crest_check_index says.
+ * Refuses: BADKEPT, SMALL.
+ * Writes: the first entries numbers of list; entries.
+ */
+crest_result crest_load_kept(const uint8_t *bytes, size_t bytes_len, uint32_t *list, size_t list_len, uint64_t *entries);
+
+/* ---- Numbers ---- */
+
+/* waveform::sample. Twice the amplitude of a sample, 2 * sample - 255. It refuses nothing and returns the number itself. */
+int64_t crest_sample(uint8_t sample);
+
+/*
+ * vax::vax_f. Reads a VAX F number from the first 4 bytes, exactly.
+ * Refuses: SHORT, RESERVED.
+ * Writes: number.
+ */
+crest_result crest_vax_f(const uint8_t *bytes, size_t bytes_len, double *number);
+
+/*
+ * vax::vax_d. Reads a VAX D number from the first 8 bytes, without the three lowest of its 55 fraction bits.
+ * Refuses: SHORT, RESERVED.
+ * Writes: number.
+ */
+crest_result crest_vax_d(const uint8_t *bytes, size_t bytes_len, double *number);
+
+/*
+ * orbit::per_orbit_opening. Reads the opening of the Magellan per-orbit parameters from the first 20 bytes of its data block, which in
+ * a record of file 12 begins 8 bytes into the value, behind the secondary header.
+ * Refuses: SHORT; RESERVED with place 4 for the start, then with place 12 for the stop.
+ * Writes: orbit; start and stop, in seconds.
+ */
+crest_result crest_opening(const uint8_t *bytes, size_t bytes_len, uint64_t *orbit, double *start, double *stop);
+
+/*
+ * altimeter::verdict. Compares a value with the limits of an element, 4.4.element of the TOPEX altimeter's elements.
+ * Refuses: UNKNOWN.
+ * Writes: verdict, one of enum crest_verdict_number; the limits themselves are inside.
+ */
+crest_result crest_verdict(uint64_t element, int64_t value, uint64_t *verdict);
+
+#ifdef __cplusplus
+}
+#endif
+
+#endif

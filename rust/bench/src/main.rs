@@ -1,0 +1,193 @@
+//! `cargo run --release -p bench`: the proved library, through its crate, beside plain Rust. Both
+//! run in this process on the same buffers, in turn; each figure is the best of all rounds.
+
+mod inputs;
+mod plain;
+
+use crestulbino::{Kind, Window};
+use inputs::{Numbers, ROWS, WAVEFORM_ROWS};
+use std::hint::black_box;
+use std::time::{Duration, Instant};
+
+/// How often each side is measured.
+const ROUNDS: usize = 30;
+
+/// How many random rows are jumped to.
+const JUMPS: usize = 20_000;
+
+/// How many numbers are read, and how often in a round.
+const NUMBERS: usize = 4_096;
+const REPEATS: usize = 50;
+
+const EMPTY: Window = Window::new(0, 0);
+
+fn main() {
+    let mut numbers = Numbers::new();
+    let file = inputs::labelled(&mut numbers);
+    let waveform = inputs::waveform(&mut numbers);
+    let times = inputs::vax_numbers(&mut numbers, NUMBERS);
+    let rows = |of: usize| -> Vec<usize> {
+        let mut numbers = Numbers::new();
+        (0..JUMPS).map(|_| numbers.below(of)).collect()
+    };
+    println!(
+        "{ROWS} rows of 0 to 63 bytes two deep, {} bytes; {WAVEFORM_ROWS} waveform rows; best of {ROUNDS}\n",
+        file.len()
+    );
+    println!("| Call | Proved | Plain Rust | Ratio |");
+    println!("|---|---|---|---|");
+    labelled_calls(&file, &rows(ROWS));
+    waveform_calls(&waveform, &rows(WAVEFORM_ROWS));
+    number_calls(&times, &waveform[..NUMBERS]);
+}
+
+fn labelled_calls(file: &[u8], rows: &[usize]) {
+    compare(
+        "check labelled, a row",
+        ROWS,
+        || crestulbino::check(Kind::Labelled, black_box(file)).unwrap_or(0),
+        || plain::check(black_box(file)).unwrap_or(0),
+    );
+    let (mut one, mut other) = (vec![1; ROWS], vec![1; ROWS]);
+    compare(
+        "build_index, a row",
+        ROWS,
+        || crestulbino::build_index(black_box(file), &mut one).map_or(0, |built| built.entries),
+        || plain::build_index(black_box(file), &mut other).map_or(0, |built| built.0),
+    );
+    assert_eq!(one, other, "the two indexes");
+    let list = &one[..ROWS.div_ceil(crestulbino::ROWS_PER_ENTRY)];
+    compare(
+        "check_index, a row",
+        ROWS,
+        || usize::from(crestulbino::check_index(black_box(file), list).is_ok()),
+        || usize::from(plain::check_index(black_box(file), list).is_ok()),
+    );
+    compare(
+        "jump_labelled, a jump",
+        rows.len(),
+        || {
+            sum(rows, |row| {
+                crestulbino::jump_labelled(file, list, row, EMPTY).map_or(0, |row| row.place)
+            })
+        },
+        || {
+            sum(rows, |row| {
+                plain::jump_labelled(file, list, row, 0, 0).map_or(0, |(place, _)| place)
+            })
+        },
+    );
+    compare(
+        "row_from row after row, a row",
+        ROWS,
+        || {
+            let (mut from, mut rows) = (0, 0);
+            while let Ok(row) = crestulbino::row_from(Kind::Labelled, black_box(file), from) {
+                from = row.end();
+                rows += 1;
+            }
+            rows
+        },
+        || {
+            let (mut from, mut rows) = (0, 0);
+            while let Ok((place, bytes)) = plain::row_from(black_box(file), from) {
+                from = place + bytes.len();
+                rows += 1;
+            }
+            rows
+        },
+    );
+}
+
+fn waveform_calls(file: &[u8], rows: &[usize]) {
+    let last = WAVEFORM_ROWS - 1;
+    compare(
+        "read_row waveform, row 9,999",
+        REPEATS,
+        || {
+            sum(&[last; REPEATS], |row| {
+                crestulbino::read_row(Kind::Waveform, file, row, EMPTY).map_or(0, |row| row.place)
+            })
+        },
+        || {
+            sum(&[last; REPEATS], |row| {
+                plain::read_row_waveform(file, row, 0, 0).map_or(0, |(place, _)| place)
+            })
+        },
+    );
+    compare(
+        "jump_waveform, a jump",
+        rows.len(),
+        || {
+            sum(rows, |row| {
+                crestulbino::jump_waveform(file, row, EMPTY).map_or(0, |row| row.place)
+            })
+        },
+        || {
+            sum(rows, |row| {
+                plain::jump_waveform(file, row, 0, 0).map_or(0, |(place, _)| place)
+            })
+        },
+    );
+}
+
+fn number_calls(times: &[[u8; 8]], samples: &[u8]) {
+    compare(
+        "vax_d, a number",
+        REPEATS * times.len(),
+        || repeated(times, |time| crestulbino::vax_d(time).map_or(0, bits)),
+        || repeated(times, |time| plain::vax_d(time).map_or(0, bits)),
+    );
+    compare(
+        "sample, a sample",
+        REPEATS * samples.len(),
+        || repeated(samples, |&sample| crestulbino::sample(sample) as usize),
+        || repeated(samples, |&sample| plain::sample(sample) as usize),
+    );
+}
+
+fn bits(number: f64) -> usize {
+    number.to_bits() as usize
+}
+
+/// The answers for all rows, added up so that none can be left out.
+fn sum(rows: &[usize], answer: impl Fn(usize) -> usize) -> usize {
+    let answers = rows.iter().map(|&row| answer(black_box(row)));
+    answers.fold(0, usize::wrapping_add)
+}
+
+fn repeated<T>(items: &[T], answer: impl Fn(&T) -> usize) -> usize {
+    let once = |_| {
+        let answers = black_box(items).iter().map(&answer);
+        answers.fold(0, usize::wrapping_add)
+    };
+    (0..REPEATS).map(once).fold(0, usize::wrapping_add)
+}
+
+/// Measures both sides in turn and prints a line of the table.
+fn compare(
+    name: &str,
+    units: usize,
+    mut proved: impl FnMut() -> usize,
+    mut plain: impl FnMut() -> usize,
+) {
+    assert_eq!(proved(), plain(), "{name}");
+    let (mut of_proved, mut of_plain) = (Duration::MAX, Duration::MAX);
+    for _ in 0..ROUNDS {
+        of_proved = of_proved.min(timed(&mut proved));
+        of_plain = of_plain.min(timed(&mut plain));
+    }
+    let each = |time: Duration| time.as_secs_f64() * 1e9 / units as f64;
+    println!(
+        "| {name} | {:.1} ns | {:.1} ns | {:.2} |",
+        each(of_proved),
+        each(of_plain),
+        each(of_proved) / each(of_plain)
+    );
+}
+
+fn timed(call: &mut impl FnMut() -> usize) -> Duration {
+    let begun = Instant::now();
+    black_box(call());
+    begun.elapsed()
+}

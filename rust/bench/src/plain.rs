@@ -1,0 +1,268 @@
+//! The same calls in plain Rust, written for speed. Like the library they allocate nothing and
+//! change nothing on a refusal. Each is a function that is called, as the library's are; inside
+//! of it the compiler may inline what it likes.
+
+use std::hint::black_box;
+
+/// A refusal's number and place.
+pub type Fault = (u8, usize);
+
+/// The most bytes that a file may have.
+const MOST: usize = u32::MAX as usize;
+
+const LABEL: usize = 20;
+const DEEPEST: usize = 8;
+const ROWS_PER_ENTRY: usize = 16;
+const RECORD: usize = 2_080;
+const PREFIX: usize = 32;
+const SAMPLES: usize = 2_048;
+
+/// Whether the label at the front of the bytes opens a group, and its length.
+fn label(bytes: &[u8]) -> Result<(bool, usize), u8> {
+    let label: &[u8; LABEL] = bytes.first_chunk().ok_or(1)?;
+    let (head, digits) = label.split_at(12);
+    let is_head = matches!(&head[..4], b"NJPL" | b"CCSD")
+        && head[4] == b'1'
+        && head[5].is_ascii_uppercase()
+        && head[6..8] == *b"00"
+        && head[8..]
+            .iter()
+            .all(|byte| byte.is_ascii_uppercase() || byte.is_ascii_digit());
+    if !is_head {
+        return Err(2);
+    }
+    let mut length = 0;
+    for byte in digits {
+        let digit = byte.wrapping_sub(b'0');
+        if digit > 9 {
+            return Err(3);
+        }
+        length = 10 * length + usize::from(digit);
+    }
+    Ok((head[5] == b'Z', length))
+}
+
+fn check_size(file: &[u8]) -> Result<(), Fault> {
+    if file.len() > MOST {
+        return Err((14, 0));
+    }
+    Ok(())
+}
+
+/// Checks a labelled file and counts its rows.
+#[inline(never)]
+pub fn check(file: &[u8]) -> Result<usize, Fault> {
+    check_size(file)?;
+    let mut outer_ends = [0; DEEPEST];
+    let mut depth = 0;
+    let mut end = file.len();
+    let mut place = 0;
+    let mut rows = 0;
+    loop {
+        while place == end {
+            if depth == 0 {
+                return Ok(rows);
+            }
+            depth -= 1;
+            end = outer_ends[depth];
+        }
+        if depth == DEEPEST {
+            return Err((5, place));
+        }
+        let (is_group, length) = label(&file[place..end]).map_err(|number| (number, place))?;
+        let value = place + LABEL;
+        if length > end - value {
+            return Err((4, place));
+        }
+        if is_group {
+            outer_ends[depth] = end;
+            depth += 1;
+            end = value + length;
+            place = value;
+        } else {
+            rows += 1;
+            place = value + length;
+        }
+    }
+}
+
+/// A leaf: the places of its label and of its value, and the value's length.
+#[derive(Clone, Copy)]
+struct Leaf {
+    label: usize,
+    value: usize,
+    length: usize,
+}
+
+/// The leaves from a place on, with no memory of depth.
+struct Leaves<'a> {
+    file: &'a [u8],
+    place: usize,
+}
+
+impl Iterator for Leaves<'_> {
+    type Item = Result<Leaf, Fault>;
+
+    #[inline]
+    fn next(&mut self) -> Option<Self::Item> {
+        loop {
+            let place = self.place;
+            let rest = self.file.get(place..).filter(|rest| !rest.is_empty())?;
+            let (is_group, length) = match label(rest) {
+                Ok(label) => label,
+                Err(number) => return Some(Err((number, place))),
+            };
+            let value = place + LABEL;
+            if is_group {
+                self.place = value;
+                continue;
+            }
+            if length > self.file.len() - value {
+                return Some(Err((4, place)));
+            }
+            self.place = value + length;
+            return Some(Ok(Leaf {
+                label: place,
+                value,
+                length,
+            }));
+        }
+    }
+}
+
+fn leaves(file: &[u8], place: usize) -> Leaves<'_> {
+    Leaves { file, place }
+}
+
+/// The places of the labels of rows 0, 16, 32 and so on.
+fn entries(file: &[u8]) -> impl Iterator<Item = Result<u32, Fault>> + '_ {
+    let places = leaves(file, 0).step_by(ROWS_PER_ENTRY);
+    places.map(|leaf| leaf.map(|leaf| leaf.label as u32))
+}
+
+/// Writes the index of a file, and answers how many entries and rows it has.
+#[inline(never)]
+pub fn build_index(file: &[u8], list: &mut [u32]) -> Result<(usize, usize), Fault> {
+    let rows = check(file)?;
+    let count = rows.div_ceil(ROWS_PER_ENTRY);
+    let list = list.get_mut(..count).ok_or((8, 0))?;
+    for (slot, entry) in list.iter_mut().zip(entries(file)) {
+        *slot = entry?;
+    }
+    Ok((count, rows))
+}
+
+/// Accepts exactly the index of an accepted file.
+#[inline(never)]
+pub fn check_index(file: &[u8], list: &[u32]) -> Result<(), Fault> {
+    let rows = check(file)?;
+    let is_index = list.len() == rows.div_ceil(ROWS_PER_ENTRY)
+        && list
+            .iter()
+            .zip(entries(file))
+            .all(|(&entry, place)| place == Ok(entry));
+    if is_index {
+        Ok(())
+    } else {
+        Err((11, 0))
+    }
+}
+
+/// The place of a window of a row, and the bytes that it shows.
+type Shown<'a> = Result<(usize, &'a [u8]), Fault>;
+
+fn window(file: &[u8], row: usize, length: usize, first: usize, count: usize) -> Shown<'_> {
+    if first > length || count > length - first {
+        return Err((7, 0));
+    }
+    let place = row + first;
+    Ok((place, &file[place..place + count]))
+}
+
+/// Reads a window of a row of a labelled file by its index.
+#[inline(never)]
+pub fn jump_labelled<'a>(
+    file: &'a [u8],
+    list: &[u32],
+    row: usize,
+    first: usize,
+    count: usize,
+) -> Shown<'a> {
+    check_size(file)?;
+    let &entry = list.get(row / ROWS_PER_ENTRY).ok_or((6, 0))?;
+    let entry = entry as usize;
+    if entry > file.len() {
+        return Err((11, 0));
+    }
+    let mut leaves = leaves(file, entry);
+    for _ in 0..row % ROWS_PER_ENTRY {
+        leaves.next().ok_or((6, 0))??;
+    }
+    let leaf = leaves.next().ok_or((6, 0))??;
+    window(file, leaf.value, leaf.length, first, count)
+}
+
+/// Gives the first row from a place on, whole.
+#[inline(never)]
+pub fn row_from(file: &[u8], from: usize) -> Shown<'_> {
+    check_size(file)?;
+    let leaf = leaves(file, from).next().ok_or((6, 0))??;
+    window(file, leaf.value, leaf.length, 0, leaf.length)
+}
+
+fn check_waveform(file: &[u8]) -> Result<usize, Fault> {
+    check_size(file)?;
+    if !file.len().is_multiple_of(RECORD) {
+        return Err((12, 0));
+    }
+    Ok(file.len() / RECORD)
+}
+
+/// Reads a window of a row of a waveform file by passing the rows in front of it. The compiler is
+/// not told how long a row is, or it would compute the place, which is the jump.
+#[inline(never)]
+pub fn read_row_waveform(file: &[u8], row: usize, first: usize, count: usize) -> Shown<'_> {
+    check_waveform(file)?;
+    let record = black_box(RECORD);
+    let mut place = 0;
+    let mut passed = 0;
+    while passed < row && place < file.len() {
+        place += record;
+        passed += 1;
+    }
+    if place == file.len() {
+        return Err((6, 0));
+    }
+    window(file, place + PREFIX, SAMPLES, first, count)
+}
+
+/// Reads a window of a row of a waveform file at its computed place.
+#[inline(never)]
+pub fn jump_waveform(file: &[u8], row: usize, first: usize, count: usize) -> Shown<'_> {
+    if row >= check_waveform(file)? {
+        return Err((6, 0));
+    }
+    window(file, row * RECORD + PREFIX, SAMPLES, first, count)
+}
+
+/// Reads a VAX D number without the three lowest bits of its fraction.
+#[inline(never)]
+pub fn vax_d(bytes: &[u8]) -> Result<f64, Fault> {
+    let bytes: &[u8; 8] = bytes.first_chunk().ok_or((1, 0))?;
+    let word = |at| u64::from(u16::from_le_bytes([bytes[at], bytes[at + 1]]));
+    let bits = (word(0) << 48) | (word(2) << 32) | (word(4) << 16) | word(6);
+    let (sign, exponent) = (bits >> 63, (bits >> 55) & 0xff);
+    if exponent == 0 {
+        return if sign == 0 { Ok(0.0) } else { Err((9, 0)) };
+    }
+    let fraction = (bits & ((1 << 55) - 1)) >> 3;
+    Ok(f64::from_bits(
+        (sign << 63) | ((exponent + 894) << 52) | fraction,
+    ))
+}
+
+/// Twice the amplitude of a sample.
+#[inline(never)]
+pub fn sample(sample: u8) -> i64 {
+    2 * i64::from(sample) - 255
+}

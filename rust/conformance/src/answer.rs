@@ -1,0 +1,131 @@
+//! Making the call of a case and writing its answer down.
+
+use crate::words::{write_bytes, write_list};
+use crate::{Case, Library};
+use crestulbino::{Kind, Refused, Row, Verdict};
+use std::fmt::{self, Display};
+
+/// The answer to a line that is no case.
+pub const BAD_LINE: &str = "bad line";
+
+/// Answers a line, whether or not it is a case.
+pub fn answer_line(library: &Library, line: &[u8]) -> String {
+    Case::parse(line).map_or_else(|| BAD_LINE.to_string(), |case| answer(library, &case))
+}
+
+/// Makes the call of a case. Memory that the call may write to is shown behind its answer,
+/// refused or not.
+pub fn answer(library: &Library, case: &Case) -> String {
+    match case {
+        Case::ReadLabel { bytes } => line((library.read_label)(bytes).map(|label| {
+            format!(
+                "{} {} {} {}",
+                Bytes(&label.agency),
+                Bytes(&[label.class]),
+                Bytes(&label.description),
+                label.length
+            )
+        })),
+        Case::WriteLabel {
+            head,
+            length,
+            buffer,
+        } => writes(buffer, Bytes, |buffer| {
+            (library.write_label)(head, *length, buffer)
+        }),
+        Case::CheckLabelled { file } => line((library.check)(Kind::Labelled, file)),
+        Case::CheckWaveform { file } => line((library.check)(Kind::Waveform, file)),
+        Case::ReadRowLabelled { file, row, window } => {
+            shown((library.read_row)(Kind::Labelled, file, *row, *window))
+        }
+        Case::ReadRowWaveform { file, row, window } => {
+            shown((library.read_row)(Kind::Waveform, file, *row, *window))
+        }
+        Case::JumpLabelled {
+            file,
+            list,
+            row,
+            window,
+        } => shown((library.jump_labelled)(file, list, *row, *window)),
+        Case::JumpWaveform { file, row, window } => {
+            shown((library.jump_waveform)(file, *row, *window))
+        }
+        Case::RowFrom { kind, file, from } => shown((library.row_from)(*kind, file, *from)),
+        Case::BuildIndex { file, list } => writes(list, List, |list| {
+            let built = (library.build_index)(file, list)?;
+            Ok(format!("{} {}", built.entries, built.rows))
+        }),
+        Case::CheckIndex { file, list } => match (library.check_index)(file, list) {
+            Ok(()) => "ok".to_string(),
+            Err(refused) => refusal(refused),
+        },
+        Case::KeepIndex { list, buffer } => {
+            writes(buffer, Bytes, |buffer| (library.keep_index)(list, buffer))
+        }
+        Case::LoadKept { bytes, list } => {
+            writes(list, List, |list| (library.load_kept)(bytes, list))
+        }
+        Case::Sample { byte } => line(Ok((library.sample)(*byte))),
+        Case::VaxF { bytes } => line((library.vax_f)(bytes).map(Float)),
+        Case::VaxD { bytes } => line((library.vax_d)(bytes).map(Float)),
+        Case::Opening { bytes } => line((library.opening)(bytes).map(|opening| {
+            let (start, stop) = (Float(opening.start), Float(opening.stop));
+            format!("{} {start} {stop}", opening.orbit)
+        })),
+        Case::Verdict { element, value } => line((library.verdict)(*element, *value).map(
+            |verdict| match verdict {
+                Verdict::Below => "below",
+                Verdict::Inside => "inside",
+                Verdict::Above => "above",
+            },
+        )),
+    }
+}
+
+fn refusal(refused: Refused) -> String {
+    format!("ref {} {}", refused.refusal.number(), refused.place)
+}
+
+fn line(answer: Result<impl Display, Refused>) -> String {
+    answer.map_or_else(refusal, |parts| format!("ok {parts}"))
+}
+
+fn shown(answer: Result<Row<'_>, Refused>) -> String {
+    line(answer.map(|row| format!("{} {}", row.place, Bytes(row.bytes))))
+}
+
+/// Lends a copy of the case's memory to a call, and shows it behind the answer.
+fn writes<T: Copy, Answer: Display, Shown: Display>(
+    memory: &[T],
+    show: impl FnOnce(Vec<T>) -> Shown,
+    call: impl FnOnce(&mut [T]) -> Result<Answer, Refused>,
+) -> String {
+    let mut memory = memory.to_vec();
+    let answer = line(call(&mut memory));
+    format!("{answer} {}", show(memory))
+}
+
+struct Bytes<B>(B);
+
+impl<B: AsRef<[u8]>> Display for Bytes<B> {
+    fn fmt(&self, f: &mut fmt::Formatter<'_>) -> fmt::Result {
+        write_bytes(self.0.as_ref(), f)
+    }
+}
+
+struct List(Vec<u32>);
+
+impl Display for List {
+    fn fmt(&self, f: &mut fmt::Formatter<'_>) -> fmt::Result {
+        write_list(&self.0, f)
+    }
+}
+
+/// The bits of a float, the most significant digit first.
+struct Float(f64);
+
+impl Display for Float {
+    fn fmt(&self, f: &mut fmt::Formatter<'_>) -> fmt::Result {
+        write!(f, "{:016x}", self.0.to_bits())
+    }
+}

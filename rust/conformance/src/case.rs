@@ -1,0 +1,162 @@
+//! The cases: one line of a table for each call.
+
+use crate::argument::Argument;
+use crate::words::Words;
+use crestulbino::{Kind, Window};
+use std::fmt;
+
+/// Makes the cases of the calls' names and arguments, with all that is done alike for each.
+macro_rules! cases {
+    ($($name:literal $call:ident { $($argument:ident: $of:ty),+ })+) => {
+        /// One call with all that is lent to it.
+        #[derive(Clone, Debug, PartialEq, Eq)]
+        pub enum Case {
+            $(#[doc = concat!("`", $name, "`")] $call { $($argument: $of),+ },)+
+        }
+
+        impl Case {
+            /// Reads a case from a line without its ending byte, or nothing if the line is no
+            /// case.
+            pub fn parse(line: &[u8]) -> Option<Case> {
+                let mut words = Words::of(line);
+                let case = match std::str::from_utf8(words.next()?).ok()? {
+                    $($name => Case::$call { $($argument: Argument::read(&mut words)?),+ },)+
+                    _ => return None,
+                };
+                words.are_used_up().then_some(case)
+            }
+
+            /// Makes its arguments smaller, one after the other, as long as the case still
+            /// serves. Gives nothing once no more may be tried; what was found so far is kept.
+            pub fn shrink(
+                &mut self,
+                serves: &mut dyn FnMut(&Case) -> Option<bool>,
+            ) -> Option<()> {
+                match self {
+                    $(Case::$call { .. } => { $(
+                        let mut trial = self.clone();
+                        if let Case::$call { $argument, .. } = self {
+                            $argument.shrink(&mut |smaller| {
+                                if let Case::$call { $argument, .. } = &mut trial {
+                                    $argument.clone_from(smaller);
+                                }
+                                serves(&trial)
+                            })?;
+                        }
+                    )+ })+
+                }
+                Some(())
+            }
+        }
+
+        /// A case is shown as its line, without the ending byte.
+        impl fmt::Display for Case {
+            fn fmt(&self, f: &mut fmt::Formatter<'_>) -> fmt::Result {
+                match self {
+                    $(Case::$call { $($argument),+ } => {
+                        f.write_str($name)?;
+                        $(
+                            f.write_str(" ")?;
+                            $argument.write(f)?;
+                        )+
+                    })+
+                }
+                Ok(())
+            }
+        }
+    };
+}
+
+cases! {
+    "read_label" ReadLabel { bytes: Vec<u8> }
+    "write_label" WriteLabel { head: Vec<u8>, length: usize, buffer: Vec<u8> }
+    "check_labelled" CheckLabelled { file: Vec<u8> }
+    "check_waveform" CheckWaveform { file: Vec<u8> }
+    "read_row_labelled" ReadRowLabelled { file: Vec<u8>, row: usize, window: Window }
+    "read_row_waveform" ReadRowWaveform { file: Vec<u8>, row: usize, window: Window }
+    "jump_labelled" JumpLabelled { file: Vec<u8>, list: Vec<u32>, row: usize, window: Window }
+    "jump_waveform" JumpWaveform { file: Vec<u8>, row: usize, window: Window }
+    "row_from" RowFrom { kind: Kind, file: Vec<u8>, from: usize }
+    "build_index" BuildIndex { file: Vec<u8>, list: Vec<u32> }
+    "check_index" CheckIndex { file: Vec<u8>, list: Vec<u32> }
+    "keep_index" KeepIndex { list: Vec<u32>, buffer: Vec<u8> }
+    "load_kept" LoadKept { bytes: Vec<u8>, list: Vec<u32> }
+    "sample" Sample { byte: u8 }
+    "vax_f" VaxF { bytes: Vec<u8> }
+    "vax_d" VaxD { bytes: Vec<u8> }
+    "opening" Opening { bytes: Vec<u8> }
+    "verdict" Verdict { element: u64, value: i64 }
+}
+
+#[cfg(test)]
+mod tests {
+    use super::*;
+
+    fn case(line: &str) -> Case {
+        Case::parse(line.as_bytes()).unwrap()
+    }
+
+    #[test]
+    fn a_case_is_shown_as_its_line() {
+        for line in [
+            "read_label -",
+            "write_label 4e4a 18446744073709551615 00ff",
+            "jump_labelled 00 7,4294967295 1 2 3",
+            "row_from labelled1 00 5",
+            "row_from waveform - 0",
+            "sample 255",
+            "verdict 141 -9223372036854775808",
+        ] {
+            assert_eq!(case(line).to_string(), line);
+        }
+    }
+
+    #[test]
+    fn kinds_are_two_words() {
+        for kind in [
+            "labelled",
+            "labelled2",
+            "Labelled1",
+            "waveforms",
+            "bursts:0",
+            "-",
+            "",
+        ] {
+            let line = format!("row_from {kind} - 0");
+            assert_eq!(Case::parse(line.as_bytes()), None, "{line}");
+        }
+    }
+
+    #[test]
+    fn every_argument_is_made_smaller() {
+        for (line, smallest) in [
+            (
+                "jump_labelled 010203 4,5,6 7 8 9",
+                "jump_labelled - - 0 0 0",
+            ),
+            ("write_label 0102 12 0304", "write_label - 0 -"),
+            ("row_from waveform 0102 77", "row_from waveform - 0"),
+            ("verdict 141 -9223372036854775808", "verdict 0 0"),
+            ("sample 200", "sample 0"),
+        ] {
+            let mut shrunk = case(line);
+            shrunk.shrink(&mut |_| Some(true)).unwrap();
+            assert_eq!(shrunk, case(smallest));
+        }
+    }
+
+    #[test]
+    fn what_matters_is_kept() {
+        let mut shrunk = case("verdict 141 -2001");
+        let still = |trial: &Case| matches!(trial, Case::Verdict { value: ..=-100, .. });
+        shrunk.shrink(&mut |trial| Some(still(trial))).unwrap();
+        assert_eq!(shrunk, case("verdict 0 -100"));
+        let mut shrunk = case("keep_index 9,300,9 -");
+        let still = |trial: &Case| match trial {
+            Case::KeepIndex { list, .. } => list.iter().any(|&entry| entry > 255),
+            _ => false,
+        };
+        shrunk.shrink(&mut |trial| Some(still(trial))).unwrap();
+        assert_eq!(shrunk, case("keep_index 256 -"));
+    }
+}

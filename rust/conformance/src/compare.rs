@@ -1,0 +1,186 @@
+//! The comparison: both sides answer the cases of a seed, up to the first difference, which is
+//! made smaller before it is shown.
+
+use crate::generator::Generator;
+use crate::{answer, Case, Library};
+use std::fmt;
+use std::time::{Duration, Instant};
+
+/// How long smaller cases are tried for a difference.
+const TRIAL_TIME: Duration = Duration::from_secs(10);
+
+/// Longer lines are cut when they are shown.
+const SHOWN: usize = 1_200;
+
+/// Two implementations to be compared, each with its name.
+#[derive(Clone, Copy, Debug)]
+pub struct Sides<'a> {
+    /// The first one.
+    pub left: (&'a str, &'a Library),
+    /// The other one.
+    pub right: (&'a str, &'a Library),
+}
+
+/// A case that the two sides answer differently.
+#[derive(Clone, Debug, PartialEq, Eq)]
+pub struct Difference {
+    /// The case's number in its seed's stream; the first is 1.
+    pub number: usize,
+    /// The case, as small as it could be made.
+    pub case: Case,
+    /// Each side's name and answer.
+    pub answers: [(String, String); 2],
+}
+
+impl Sides<'_> {
+    /// Compares the answers to the first `count` lines of a seed's stream. `progress` is told how
+    /// many were compared, after each of them.
+    pub fn first_difference(
+        &self,
+        seed: u64,
+        count: usize,
+        mut progress: impl FnMut(usize),
+    ) -> Option<Difference> {
+        for (line, number) in Generator::new(seed).take(count).zip(1..) {
+            // A line that is no case is answered alike: the language is the same for both.
+            let case = Case::parse(line.as_bytes());
+            if let Some(case) = case.filter(|case| self.differ(case)) {
+                return Some(self.difference(number, case));
+            }
+            progress(number);
+        }
+        None
+    }
+
+    fn differ(&self, case: &Case) -> bool {
+        answer(self.left.1, case) != answer(self.right.1, case)
+    }
+
+    fn difference(&self, number: usize, case: Case) -> Difference {
+        let case = self.smallest(case);
+        let of = |(name, library): (&str, &Library)| (name.to_string(), answer(library, &case));
+        let answers = [of(self.left), of(self.right)];
+        Difference {
+            number,
+            case,
+            answers,
+        }
+    }
+
+    /// Makes a case smaller until nothing more can be taken from it, or it took too long.
+    fn smallest(&self, mut case: Case) -> Case {
+        let begun = Instant::now();
+        loop {
+            let before = case.clone();
+            let done = case
+                .shrink(&mut |trial| (begun.elapsed() < TRIAL_TIME).then(|| self.differ(trial)));
+            if done.is_none() || case == before {
+                return case;
+            }
+        }
+    }
+}
+
+impl fmt::Display for Difference {
+    fn fmt(&self, f: &mut fmt::Formatter<'_>) -> fmt::Result {
+        writeln!(f, "number: {}", self.number)?;
+        writeln!(f, "case: {}", cut(&self.case.to_string()))?;
+        for (name, answer) in &self.answers {
+            writeln!(f, "{name}: {}", cut(answer))?;
+        }
+        Ok(())
+    }
+}
+
+fn cut(line: &str) -> String {
+    match line.char_indices().nth(SHOWN) {
+        Some((end, _)) => format!("{} .. ({} bytes in all)", &line[..end], line.len()),
+        None => line.to_string(),
+    }
+}
+
+#[cfg(test)]
+mod tests {
+    use super::*;
+    use crate::library::INDEPENDENT;
+    use crestulbino::{Kind, Refusal, Refused, Row};
+
+    fn compared_with(wrong: Library) -> Option<Difference> {
+        let sides = Sides {
+            left: ("right", &INDEPENDENT),
+            right: ("wrong", &wrong),
+        };
+        sides.first_difference(1, 5_000, |_| {})
+    }
+
+    #[test]
+    fn a_library_does_not_differ_from_itself() {
+        assert_eq!(compared_with(INDEPENDENT), None);
+    }
+
+    #[test]
+    fn a_wrong_number_is_found_and_named() {
+        let wrong = Library {
+            sample: |byte| (INDEPENDENT.sample)(byte) + i64::from(byte >= 77),
+            ..INDEPENDENT
+        };
+        let found = compared_with(wrong).unwrap();
+        assert_eq!(found.case.to_string(), "sample 77");
+        assert_eq!(
+            found.to_string(),
+            format!(
+                "number: {}\ncase: sample 77\nright: ok -101\nwrong: ok -100\n",
+                found.number
+            )
+        );
+    }
+
+    /// A reader that goes wrong behind the first group of rows.
+    #[test]
+    fn a_file_is_made_as_small_as_the_fault_allows() {
+        fn wrong(kind: Kind, file: &[u8]) -> Result<usize, Refused> {
+            let rows = (INDEPENDENT.check)(kind, file)?;
+            Ok(if kind == Kind::Labelled {
+                rows.min(3)
+            } else {
+                rows
+            })
+        }
+        let found = compared_with(Library {
+            check: wrong,
+            ..INDEPENDENT
+        })
+        .unwrap();
+        let Case::CheckLabelled { file } = &found.case else {
+            panic!("{found}");
+        };
+        assert_eq!((INDEPENDENT.check)(Kind::Labelled, file), Ok(4));
+        assert!(file.len() < 5 * 20, "{found}");
+    }
+
+    #[test]
+    fn places_are_made_small_too() {
+        fn wrong(kind: Kind, file: &[u8], from: usize) -> Result<Row<'_>, Refused> {
+            (INDEPENDENT.row_from)(kind, file, from).map_err(|refused| match kind {
+                Kind::Waveform if refused.refusal == Refusal::NoRow && from > 9 => Refused {
+                    place: from,
+                    ..refused
+                },
+                _ => refused,
+            })
+        }
+        let found = compared_with(Library {
+            row_from: wrong,
+            ..INDEPENDENT
+        })
+        .unwrap();
+        assert_eq!(found.case.to_string(), "row_from waveform - 10");
+    }
+
+    #[test]
+    fn long_lines_are_cut() {
+        assert_eq!(cut("sample 1"), "sample 1");
+        let long = cut(&"x".repeat(2_000));
+        assert!(long.ends_with("x .. (2000 bytes in all)"));
+    }
+}

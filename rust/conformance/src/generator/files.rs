@@ -1,0 +1,489 @@
+//! Labelled and waveform files to ask about, and ways to damage them.
+
+use super::published;
+use super::random::Random;
+use independent::label::LABEL_BYTES;
+use independent::waveform::RECORD_BYTES;
+
+const LABEL: usize = LABEL_BYTES as usize;
+
+/// The bytes of a waveform row with its prefix.
+pub const RECORD: usize = RECORD_BYTES as usize;
+
+/// Bytes on both sides of what each field of a label allows.
+pub fn odd_bytes(position: usize) -> &'static [u8] {
+    match position {
+        0..=3 => b"NCXLnc \0",
+        4 => b"023l\xb1",
+        5 => b"@[`azAYZ01",
+        6 | 7 => b"1O9/: ",
+        8..=11 => b"/:@[`az{09AZ ",
+        _ => b"/:09 +-aO\0\xb0",
+    }
+}
+
+/// A label as it was put into a file.
+#[derive(Clone, Copy, Debug)]
+pub struct Spot {
+    pub place: usize,
+    pub is_group: bool,
+    pub length: usize,
+    /// Bytes from the label's end to the end of the enclosing value.
+    pub room: usize,
+}
+
+/// A labelled file with the spots of its labels before any damage.
+#[derive(Clone, Debug, Default)]
+pub struct LabelledFile {
+    pub bytes: Vec<u8>,
+    pub spots: Vec<Spot>,
+}
+
+impl LabelledFile {
+    pub fn leaves(&self) -> Vec<Spot> {
+        let is_leaf = |spot: &&Spot| !spot.is_group;
+        self.spots.iter().filter(is_leaf).copied().collect()
+    }
+
+    /// Where labels begin, where their values begin, and where leaves end.
+    pub fn places(&self) -> Vec<usize> {
+        let of = |spot: &Spot| {
+            let value = spot.place + LABEL;
+            let end = if spot.is_group {
+                value
+            } else {
+                value + spot.length
+            };
+            [spot.place, value, end]
+        };
+        self.spots.iter().flat_map(of).collect()
+    }
+
+    pub fn index(&self) -> Vec<u32> {
+        let places = self.leaves().into_iter().map(|leaf| leaf.place as u32);
+        places.step_by(16).collect()
+    }
+}
+
+/// An object to be written into a file.
+enum Object {
+    Leaf([u8; 12], Vec<u8>),
+    Group([u8; 12], Vec<Object>),
+    /// Bytes without a label of their own.
+    Stray(Vec<u8>),
+}
+
+impl Object {
+    fn size(&self) -> usize {
+        match self {
+            Object::Leaf(_, value) => LABEL + value.len(),
+            Object::Group(_, inside) => LABEL + size_of_all(inside),
+            Object::Stray(bytes) => bytes.len(),
+        }
+    }
+}
+
+fn size_of_all(objects: &[Object]) -> usize {
+    objects.iter().map(Object::size).sum()
+}
+
+/// Writes objects into an enclosing value that ends at `end`.
+fn write_all(objects: &[Object], end: usize, file: &mut LabelledFile) {
+    for object in objects {
+        match object {
+            Object::Leaf(head, value) => {
+                write_label(head, false, value.len(), end, file);
+                file.bytes.extend(value);
+            }
+            Object::Group(head, inside) => {
+                let length = size_of_all(inside);
+                write_label(head, true, length, end, file);
+                write_all(inside, file.bytes.len() + length, file);
+            }
+            Object::Stray(bytes) => file.bytes.extend(bytes),
+        }
+    }
+}
+
+fn write_label(
+    head: &[u8; 12],
+    is_group: bool,
+    length: usize,
+    end: usize,
+    file: &mut LabelledFile,
+) {
+    let place = file.bytes.len();
+    file.bytes.extend(head);
+    file.bytes.extend(format!("{length:08}").bytes());
+    file.spots.push(Spot {
+        place,
+        is_group,
+        length,
+        room: end - place - LABEL,
+    });
+}
+
+fn written(objects: &[Object]) -> LabelledFile {
+    let mut file = LabelledFile::default();
+    write_all(objects, size_of_all(objects), &mut file);
+    file
+}
+
+/// The type bytes of a label.
+pub fn head(random: &mut Random, class: u8) -> [u8; 12] {
+    let mut head = *b"NJPL1.00....";
+    if random.chance(50) {
+        head[..4].copy_from_slice(b"CCSD");
+    }
+    head[5] = class;
+    for byte in &mut head[8..] {
+        *byte = random.pick(b"0189ABMYZ");
+    }
+    head
+}
+
+/// A class other than that of groups.
+pub fn leaf_class(random: &mut Random) -> u8 {
+    if random.chance(60) {
+        random.pick(b"IKRAY")
+    } else {
+        b'A' + random.below(25) as u8
+    }
+}
+
+fn leaf_of(random: &mut Random, value: Vec<u8>) -> Object {
+    let class = leaf_class(random);
+    Object::Leaf(head(random, class), value)
+}
+
+fn leaf(random: &mut Random) -> Object {
+    let value = value(random);
+    leaf_of(random, value)
+}
+
+fn group(random: &mut Random, inside: Vec<Object>) -> Object {
+    Object::Group(head(random, b'Z'), inside)
+}
+
+/// A short value, sometimes one that could be taken for labels.
+fn value(random: &mut Random) -> Vec<u8> {
+    if random.chance(10) {
+        let mut looks_like = head(random, b'Z').to_vec();
+        looks_like.extend(random.pick(&[b"00000000", b"00000020", b"99999999"]));
+        looks_like.extend(head(random, b'I'));
+        looks_like.extend(b"00000000");
+        looks_like.truncate(random.pick(&[20, 40]));
+        return looks_like;
+    }
+    let length = if random.chance(60) {
+        random.pick(&[0, 0, 1, 2, 3])
+    } else {
+        random.between(0, 24)
+    };
+    random.bytes(length)
+}
+
+/// So many leaves, spread over groups at random.
+fn forest(random: &mut Random, leaves: usize, depth: usize, grouping: u64) -> Vec<Object> {
+    let mut objects = Vec::new();
+    let mut left = leaves;
+    loop {
+        if depth < 8 && random.chance(grouping) {
+            let inside = random.between(0, left);
+            let objects_inside = forest(random, inside, depth + 1, grouping);
+            objects.push(group(random, objects_inside));
+            left -= inside;
+        } else if left > 0 {
+            objects.push(leaf(random));
+            left -= 1;
+        }
+        if left == 0 && random.chance(90) {
+            return objects;
+        }
+    }
+}
+
+/// Groups nested one in the other, with little inside and around them.
+fn chain(random: &mut Random) -> Vec<Object> {
+    let depth = random.weighted(&[(4, 8), (4, 9), (1, 1), (1, 2), (1, 7)]);
+    let mut inside = match random.between(0, 4) {
+        0 | 1 => Vec::new(),
+        2 => vec![leaf(random)],
+        3 => vec![group(random, Vec::new())],
+        _ => {
+            let count = random.pick(&[1, 19, 20, 21]);
+            vec![Object::Stray(random.bytes(count))]
+        }
+    };
+    for _ in 0..depth {
+        let mut around = vec![group(random, inside)];
+        if random.chance(20) {
+            around.push(leaf(random));
+        }
+        if random.chance(10) {
+            around.insert(0, leaf(random));
+        }
+        inside = around;
+    }
+    inside
+}
+
+/// A file whose later rows stand beyond 65,536.
+fn large(random: &mut Random) -> Vec<Object> {
+    let before = random.between(0, 17);
+    let mut objects = forest(random, before, 1, 10);
+    let size = random.between(64_000, 66_000);
+    let value = random.bytes(size);
+    objects.push(leaf_of(random, value));
+    let after = random.between(1, 20);
+    objects.extend(forest(random, after, 1, 10));
+    objects
+}
+
+/// Takes over a printed file by passing through its labels.
+fn known(bytes: Vec<u8>) -> LabelledFile {
+    let mut spots = Vec::new();
+    let mut place = 0;
+    let mut end = bytes.len();
+    while place < bytes.len() {
+        let digits = std::str::from_utf8(&bytes[place + 12..place + 20]);
+        let length = digits.ok().and_then(|digits| digits.parse().ok());
+        let length: usize = length.unwrap_or_default();
+        let is_group = bytes[place + 5] == b'Z';
+        let room = end - place - LABEL;
+        spots.push(Spot {
+            place,
+            is_group,
+            length,
+            room,
+        });
+        place += LABEL;
+        if is_group {
+            end = place + length;
+        } else {
+            place += length;
+        }
+        if place == end {
+            end = bytes.len();
+        }
+    }
+    LabelledFile { bytes, spots }
+}
+
+#[derive(Clone, Copy)]
+enum Shape {
+    Empty,
+    Demo,
+    Published,
+    Rows,
+    Chain,
+    Tree,
+    Large,
+}
+
+/// A labelled file without damage; only some chains of groups are refused.
+pub fn labelled(random: &mut Random) -> LabelledFile {
+    let shape = random.weighted(&[
+        (4, Shape::Empty),
+        (6, Shape::Demo),
+        (6, Shape::Published),
+        (46, Shape::Rows),
+        (16, Shape::Chain),
+        (21, Shape::Tree),
+        (1, Shape::Large),
+    ]);
+    match shape {
+        Shape::Empty => LabelledFile::default(),
+        Shape::Demo => {
+            known(b"CCSD1Z00000100000043NJPL1I00DEMO00000003abcNJPL1I00DEMO00000000".to_vec())
+        }
+        Shape::Published => known(match random.between(0, 3) {
+            0 => published::volume_header(),
+            1 => published::volume_trailer(),
+            2 => published::pass_file(1),
+            _ => [published::volume_header(), published::volume_trailer()].concat(),
+        }),
+        Shape::Rows => {
+            let rows = random.pick(&[15, 15, 16, 16, 17, 17, 33, 33, 1, 2, 14, 18, 31, 32, 34, 49]);
+            let grouping = random.pick(&[0, 10, 30]);
+            written(&forest(random, rows, 1, grouping))
+        }
+        Shape::Chain => written(&chain(random)),
+        Shape::Tree => {
+            let leaves = random.between(0, 6);
+            written(&forest(random, leaves, 1, 50))
+        }
+        Shape::Large => written(&large(random)),
+    }
+}
+
+/// Does one or two kinds of harm to a labelled file.
+pub fn damage(file: &mut LabelledFile, random: &mut Random) {
+    harm(file, random);
+    if random.chance(15) {
+        harm(file, random);
+    }
+}
+
+fn harm(file: &mut LabelledFile, random: &mut Random) {
+    let reachable = |spot: &&Spot| spot.place + LABEL <= file.bytes.len();
+    let spots: Vec<Spot> = file.spots.iter().filter(reachable).copied().collect();
+    if spots.is_empty() {
+        let extra = random.pick(&[1, 19, 20, 21, 40]);
+        let fill = random.pick(b"^\0A");
+        file.bytes.resize(file.bytes.len() + extra, fill);
+        return;
+    }
+    let spot = random.pick(&spots);
+    let label = spot.place..spot.place + LABEL;
+    match random.between(0, 9) {
+        0..=2 => {
+            let position = random.between(0, LABEL - 1);
+            harm_byte(&mut file.bytes[label], position, random);
+        }
+        3..=5 => {
+            let to_file_end = file.bytes.len() - label.end;
+            let length = random.pick(&[
+                spot.room + 1,
+                spot.room,
+                to_file_end,
+                to_file_end + 1,
+                spot.length + 1,
+                spot.length.saturating_sub(1),
+                spot.length + LABEL,
+                spot.length.saturating_sub(LABEL),
+                0,
+                99_999_999,
+            ]);
+            set_length(&mut file.bytes, spot.place, length);
+        }
+        6 | 7 => {
+            let length = file.bytes.len();
+            let kept = match random.between(0, 3) {
+                0 => length - 1,
+                1 => length.saturating_sub(random.between(1, 25)),
+                2 => spot.place + random.between(1, LABEL),
+                _ => random.between(0, length),
+            };
+            file.bytes.truncate(kept);
+        }
+        8 => {
+            let extra = random.pick(&[1, 2, 18, 19, 20, 21, 39, 40]);
+            let fill = random.pick(b"^\0 0");
+            file.bytes.resize(file.bytes.len() + extra, fill);
+        }
+        _ => {
+            let place = random.between(0, file.bytes.len() - 1);
+            if random.chance(50) {
+                file.bytes.remove(place);
+            } else {
+                file.bytes.insert(place, random.byte());
+            }
+        }
+    }
+}
+
+/// Changes one byte of a label, mostly to one at the edge of what is allowed.
+fn harm_byte(label: &mut [u8], position: usize, random: &mut Random) {
+    label[position] = if random.chance(80) {
+        random.pick(odd_bytes(position))
+    } else {
+        random.byte()
+    };
+}
+
+/// Makes a group claim more than the file has, or puts a wrong digit into its
+/// length. The jump tells these apart. Gives the place of the group, if there is one.
+pub fn harm_group_length(file: &mut LabelledFile, random: &mut Random) -> Option<usize> {
+    let groups = file.spots.iter().filter(|spot| spot.is_group);
+    let groups: Vec<usize> = groups.map(|spot| spot.place).collect();
+    if groups.is_empty() {
+        return None;
+    }
+    let place = random.pick(&groups);
+    let to_file_end = file.bytes.len().checked_sub(place + LABEL)?;
+    if random.chance(30) {
+        let position = random.between(12, LABEL - 1);
+        harm_byte(&mut file.bytes[place..], position, random);
+    } else {
+        let length = random.pick(&[to_file_end + 1, 99_999_999, 0]);
+        set_length(&mut file.bytes, place, length);
+    }
+    Some(place)
+}
+
+/// Makes a leaf end just at, or beyond, the end of the file. Gives the place of its label, if
+/// there is one.
+pub fn stretch_leaf(file: &mut LabelledFile, row: usize, random: &mut Random) -> Option<usize> {
+    let leaf = file.leaves().get(row).copied()?;
+    let to_file_end = file.bytes.len().checked_sub(leaf.place + LABEL)?;
+    let length = to_file_end + random.pick(&[0, 1, 1, 20]);
+    set_length(&mut file.bytes, leaf.place, length);
+    Some(leaf.place)
+}
+
+/// Rewrites the digits of the label at `place`.
+fn set_length(bytes: &mut [u8], place: usize, length: usize) {
+    let digits = format!("{length:08}");
+    bytes[place + 12..place + LABEL].copy_from_slice(digits.as_bytes());
+}
+
+/// A waveform file: mostly one to three rows, at times 32 or 33, at times
+/// some bytes more or less than whole rows.
+pub fn waveform(random: &mut Random) -> Vec<u8> {
+    let size = random.weighted(&[
+        (4, 0),
+        (30, RECORD),
+        (20, 2 * RECORD),
+        (20, 3 * RECORD),
+        (3, 1),
+        (4, RECORD - 1),
+        (4, RECORD + 1),
+        (2, RECORD - 32),
+        (2, 2 * RECORD - 1),
+        (8, 32 * RECORD),
+        (6, 33 * RECORD),
+    ]);
+    random.bytes(size)
+}
+
+#[cfg(test)]
+mod tests {
+    use super::*;
+    use independent::labelled::{check, leaves};
+
+    #[test]
+    fn spots_are_where_the_labels_are() {
+        let mut random = Random::new(11);
+        let mut refused = 0;
+        for _ in 0..1_000 {
+            let file = labelled(&mut random);
+            let Ok(rows) = check(&file.bytes) else {
+                refused += 1;
+                continue;
+            };
+            let spots = file.leaves();
+            assert_eq!(rows, spots.len() as u64);
+            for (spot, leaf) in spots.iter().zip(leaves(&file.bytes).unwrap()) {
+                let leaf = leaf.unwrap();
+                assert_eq!(spot.place as u64, leaf.place);
+                assert_eq!(spot.length as u64, leaf.row.length);
+                assert!(spot.length <= spot.room);
+            }
+        }
+        assert!((10..200).contains(&refused), "{refused} nested too deep");
+    }
+
+    #[test]
+    fn files_stay_within_the_size_of_a_case() {
+        let mut random = Random::new(12);
+        for _ in 0..2_000 {
+            let mut file = labelled(&mut random);
+            damage(&mut file, &mut random);
+            assert!(file.bytes.len() <= 131_072);
+        }
+        for _ in 0..200 {
+            assert!(waveform(&mut random).len() <= 131_072);
+        }
+    }
+}

@@ -1,0 +1,680 @@
+//! Fresh cases from a seed, weighted towards the edges of the documents.
+
+mod bad_lines;
+mod edges;
+pub mod files;
+pub mod published;
+pub mod random;
+
+use crate::Case;
+use crestulbino::{Kind, Window};
+use files::{LabelledFile, RECORD};
+use independent::altimeter::TABLE;
+use independent::waveform::{PREFIX_BYTES, SAMPLE_BYTES};
+use random::{Deck, Random};
+
+const PREFIX: usize = PREFIX_BYTES as usize;
+const SAMPLES: usize = SAMPLE_BYTES as usize;
+
+/// An endless stream of lines, the same for the same seed. Cases of which each
+/// one matters are dealt from decks, so that a long stream holds all of them.
+pub struct Generator {
+    random: Random,
+    label_harms: Deck<(usize, u8)>,
+    head_harms: Deck<(usize, u8)>,
+    samples: Deck<u8>,
+    vax_numbers: Deck<VaxNumber>,
+    limit_values: Deck<(u64, i64)>,
+    unknown_elements: Deck<u64>,
+    bad_lines: Deck<&'static str>,
+}
+
+/// What a VAX number is made of; each part is a choice, not a bit pattern.
+#[derive(Clone, Copy)]
+struct VaxNumber {
+    sign: u64,
+    exponent: Option<u64>,
+    fraction: Fraction,
+}
+
+#[derive(Clone, Copy)]
+enum Fraction {
+    Zero,
+    LowBits,
+    Full,
+    Any,
+}
+
+type Call = fn(&mut Generator) -> Case;
+
+/// How often each call is asked.
+const CALLS: [(u64, Call); 19] = [
+    (8, Generator::read_label),
+    (8, Generator::write_label),
+    (9, Generator::check_labelled),
+    (2, Generator::check_waveform),
+    (13, Generator::read_row_labelled),
+    (4, Generator::read_row_waveform),
+    (18, Generator::jump_labelled),
+    (4, Generator::jump_waveform),
+    (10, Generator::row_from_labelled),
+    (5, Generator::row_from_waveform),
+    (8, Generator::build_index),
+    (8, Generator::check_index),
+    (4, Generator::keep_index),
+    (7, Generator::load_kept),
+    (7, Generator::sample),
+    (5, Generator::vax_f),
+    (6, Generator::vax_d),
+    (6, Generator::opening),
+    (26, Generator::verdict),
+];
+
+/// Calls with short lines, to be spoilt. They take no card from a deck whose
+/// every card should become a case.
+const SPOILT_CALLS: [Call; 4] = [
+    Generator::keep_index,
+    Generator::load_kept,
+    Generator::vax_d,
+    Generator::opening,
+];
+
+const BAD_LINE_PERCENT: u64 = 4;
+
+impl Iterator for Generator {
+    type Item = String;
+
+    fn next(&mut self) -> Option<String> {
+        if self.random.chance(BAD_LINE_PERCENT) {
+            return Some(self.bad_line());
+        }
+        let call = self.random.weighted(&CALLS);
+        Some(call(self).to_string())
+    }
+}
+
+impl Generator {
+    pub fn new(seed: u64) -> Self {
+        Generator {
+            random: Random::new(seed),
+            label_harms: Deck::new(label_harms(20)),
+            head_harms: Deck::new(label_harms(12)),
+            samples: Deck::new((0..=255).collect()),
+            vax_numbers: Deck::new(vax_numbers()),
+            limit_values: Deck::new(limit_values()),
+            unknown_elements: Deck::new(unknown_elements()),
+            bad_lines: Deck::new(bad_lines::LINES.to_vec()),
+        }
+    }
+
+    fn bad_line(&mut self) -> String {
+        if self.random.chance(70) {
+            return self.bad_lines.deal(&mut self.random).to_string();
+        }
+        let call = self.random.pick(&SPOILT_CALLS);
+        let case = call(self).to_string();
+        bad_lines::spoilt(&case, &mut self.random)
+    }
+
+    fn read_label(&mut self) -> Case {
+        let mut bytes = self.head().to_vec();
+        let length = self.random.below(100_000_000) as usize;
+        let length = self.random.pick(&[0, 3, 99_999_999, length]);
+        bytes.extend(format!("{length:08}").bytes());
+        for _ in 0..self.random.weighted(&[(25, 0), (60, 1), (15, 2)]) {
+            let (position, byte) = self.label_harms.deal(&mut self.random);
+            bytes[position] = byte;
+        }
+        match self.random.between(0, 9) {
+            0 => bytes.truncate(self.random.between(0, 19)),
+            1 => {
+                let more = self.random.between(1, 30);
+                bytes.extend(self.random.bytes(more));
+            }
+            _ => {}
+        }
+        Case::ReadLabel { bytes }
+    }
+
+    fn write_label(&mut self) -> Case {
+        let mut head = self.head().to_vec();
+        match self.random.between(0, 9) {
+            0 => head.truncate(11),
+            1 => head.push(self.random.pick(b"0A")),
+            2 => head.clear(),
+            3..=6 => {
+                let (position, byte) = self.head_harms.deal(&mut self.random);
+                head[position] = byte;
+            }
+            _ => {}
+        }
+        let any = self.random.between(0, 99_999_999);
+        let length = self.random.pick(&[
+            0,
+            1,
+            9,
+            10,
+            any,
+            9_999_999,
+            10_000_000,
+            99_999_998,
+            99_999_999,
+            99_999_999,
+            100_000_000,
+            100_000_000,
+            100_000_001,
+            1 << 32,
+            usize::MAX,
+        ]);
+        let buffer = edges::buffer(&mut self.random, 20);
+        Case::WriteLabel {
+            head,
+            length,
+            buffer,
+        }
+    }
+
+    fn check_labelled(&mut self) -> Case {
+        let file = self.labelled_file(65).bytes;
+        Case::CheckLabelled { file }
+    }
+
+    fn check_waveform(&mut self) -> Case {
+        let file = files::waveform(&mut self.random);
+        Case::CheckWaveform { file }
+    }
+
+    fn read_row_labelled(&mut self) -> Case {
+        let file = self.labelled_file(25);
+        let (row, window) = self.labelled_row(&file);
+        Case::ReadRowLabelled {
+            file: file.bytes,
+            row,
+            window,
+        }
+    }
+
+    fn read_row_waveform(&mut self) -> Case {
+        let (file, row, window) = self.waveform_row();
+        Case::ReadRowWaveform { file, row, window }
+    }
+
+    fn jump_labelled(&mut self) -> Case {
+        let mut file = self.labelled_file(25);
+        let list = self.jump_list(&file);
+        let (row, window) = self.labelled_row(&file);
+        match self.random.between(0, 9) {
+            0 => files::harm_group_length(&mut file, &mut self.random),
+            1 => files::stretch_leaf(&mut file, row, &mut self.random),
+            _ => None,
+        };
+        Case::JumpLabelled {
+            file: file.bytes,
+            list,
+            row,
+            window,
+        }
+    }
+
+    fn jump_waveform(&mut self) -> Case {
+        let (file, row, window) = self.waveform_row();
+        Case::JumpWaveform { file, row, window }
+    }
+
+    fn row_from_labelled(&mut self) -> Case {
+        let mut file = self.labelled_file(25);
+        let harmed = match self.random.between(0, 9) {
+            0 | 1 => files::harm_group_length(&mut file, &mut self.random),
+            2 => {
+                let row = self.random.between(0, file.leaves().len());
+                files::stretch_leaf(&mut file, row, &mut self.random)
+            }
+            _ => None,
+        };
+        let places = match harmed {
+            Some(place) if self.random.chance(60) => vec![place],
+            _ => file.places(),
+        };
+        let from = edges::place(&mut self.random, &places, file.bytes.len());
+        Case::RowFrom {
+            kind: Kind::Labelled,
+            file: file.bytes,
+            from,
+        }
+    }
+
+    fn row_from_waveform(&mut self) -> Case {
+        let file = files::waveform(&mut self.random);
+        let starts: Vec<usize> = (0..file.len()).step_by(RECORD).collect();
+        let from = edges::place(&mut self.random, &starts, file.len());
+        Case::RowFrom {
+            kind: Kind::Waveform,
+            file,
+            from,
+        }
+    }
+
+    fn build_index(&mut self) -> Case {
+        let file = self.labelled_file(25);
+        let list = edges::list(&mut self.random, file.index().len());
+        Case::BuildIndex {
+            file: file.bytes,
+            list,
+        }
+    }
+
+    fn check_index(&mut self) -> Case {
+        let file = self.labelled_file(20);
+        let mut list = file.index();
+        if self.random.chance(60) {
+            self.wrong_list(&mut list, &file);
+        }
+        Case::CheckIndex {
+            file: file.bytes,
+            list,
+        }
+    }
+
+    fn keep_index(&mut self) -> Case {
+        let list = self.entries();
+        let buffer = edges::buffer(&mut self.random, 6 + 4 * list.len());
+        Case::KeepIndex { list, buffer }
+    }
+
+    fn load_kept(&mut self) -> Case {
+        let entries = self.entries();
+        let mut bytes = (2 + 4 * entries.len() as u32).to_le_bytes().to_vec();
+        bytes.extend([1, 0]);
+        bytes.extend(entries.iter().flat_map(|entry| entry.to_le_bytes()));
+        if self.random.chance(55) {
+            self.harm_kept(&mut bytes);
+        }
+        let list = edges::list(&mut self.random, entries.len());
+        Case::LoadKept { bytes, list }
+    }
+
+    fn sample(&mut self) -> Case {
+        let byte = self.samples.deal(&mut self.random);
+        Case::Sample { byte }
+    }
+
+    fn vax_f(&mut self) -> Case {
+        let mut bytes = self.vax_number(2);
+        self.change_length(&mut bytes);
+        Case::VaxF { bytes }
+    }
+
+    fn vax_d(&mut self) -> Case {
+        let mut bytes = self.vax_number(4);
+        self.change_length(&mut bytes);
+        Case::VaxD { bytes }
+    }
+
+    fn opening(&mut self) -> Case {
+        let mut bytes = if self.random.chance(30) {
+            self.random.pick(&[[0; 4], [255; 4], [1, 0, 0, 0]]).to_vec()
+        } else {
+            self.random.bytes(4)
+        };
+        for _ in 0..2 {
+            let mut time = self.vax_number(4);
+            if self.random.chance(25) {
+                // Reserved, whatever its fraction.
+                time[0] &= 0x7f;
+                time[1] = 0x80;
+            }
+            bytes.extend(time);
+        }
+        self.change_length(&mut bytes);
+        Case::Opening { bytes }
+    }
+
+    fn verdict(&mut self) -> Case {
+        let random = &mut self.random;
+        let extreme = random.pick(&[i64::MIN, i64::MIN + 1, i64::MAX, 0, -1]);
+        let any = random.draw() as i64;
+        let any = any >> random.between(0, 63);
+        let (element, value) = match random.between(0, 9) {
+            0..=6 => self.limit_values.deal(random),
+            7 => (random.pick(&TABLE).element, extreme),
+            8 => (random.pick(&TABLE).element, any),
+            _ => {
+                let value = random.pick(&[extreme, any]);
+                (self.unknown_elements.deal(random), value)
+            }
+        };
+        Case::Verdict { element, value }
+    }
+
+    /// The type bytes of a label of any class.
+    fn head(&mut self) -> [u8; 12] {
+        let class = if self.random.chance(25) {
+            b'Z'
+        } else {
+            files::leaf_class(&mut self.random)
+        };
+        files::head(&mut self.random, class)
+    }
+
+    /// A labelled file, damaged in so many of a hundred cases.
+    fn labelled_file(&mut self, damaged_percent: u64) -> LabelledFile {
+        let mut file = files::labelled(&mut self.random);
+        if self.random.chance(damaged_percent) {
+            files::damage(&mut file, &mut self.random);
+        }
+        file
+    }
+
+    /// A row number and a window that suits the row as it was before damage.
+    fn labelled_row(&mut self, file: &LabelledFile) -> (usize, Window) {
+        let leaves = file.leaves();
+        let row = edges::row(&mut self.random, leaves.len());
+        let length = leaves.get(row).map_or(3, |leaf| leaf.length);
+        (row, edges::window(&mut self.random, length))
+    }
+
+    fn waveform_row(&mut self) -> (Vec<u8>, usize, Window) {
+        let file = files::waveform(&mut self.random);
+        let rows = file.len() / RECORD;
+        if rows > 32 && self.random.chance(60) {
+            // The first row that begins at a place too large for 16 bits.
+            let window = edges::window(&mut self.random, SAMPLES);
+            return (file, 32, window);
+        }
+        if rows == 32 && self.random.chance(70) {
+            // Around the first such place, which is in the row before.
+            let turn = 65_536 - 31 * RECORD - PREFIX;
+            let first = turn - 2 + self.random.between(0, 4);
+            let window = Window::new(first, self.random.between(0, 5));
+            return (file, 31, window);
+        }
+        let row = if self.random.chance(10) {
+            edges::wrapping_row(&mut self.random)
+        } else {
+            edges::row(&mut self.random, rows)
+        };
+        let window = edges::window(&mut self.random, SAMPLES);
+        (file, row, window)
+    }
+
+    /// A list for the jump: the index, something like it, or anything.
+    fn jump_list(&mut self, file: &LabelledFile) -> Vec<u32> {
+        let mut list = file.index();
+        match self.random.between(0, 9) {
+            0..=4 => {}
+            5 | 6 => self.wrong_list(&mut list, file),
+            _ => {
+                let entries = list.len().max(1) + self.random.between(0, 1);
+                list = (0..entries).map(|_| self.any_entry(file)).collect();
+            }
+        }
+        list
+    }
+
+    /// Makes an index wrong in one respect.
+    fn wrong_list(&mut self, list: &mut Vec<u32>, file: &LabelledFile) {
+        let other = self.any_entry(file);
+        if list.is_empty() {
+            list.push(other);
+            return;
+        }
+        let at = self.random.between(0, list.len() - 1);
+        match self.random.between(0, 8) {
+            0 => list[at] = list[at].wrapping_add(1),
+            1 => list[at] = list[at].wrapping_sub(1),
+            2 => list[at] = list[at].wrapping_add(20),
+            3 => list[at] = list[at].wrapping_sub(20),
+            4 => list[at] = other,
+            5 => {
+                list.pop();
+            }
+            6 => list.push(other),
+            7 => {
+                let last = list[list.len() - 1];
+                list.push(last);
+            }
+            _ => {
+                list.remove(at);
+            }
+        }
+    }
+
+    /// A place that an index might name: of a label, of the file's end, of
+    /// something between, or beyond.
+    fn any_entry(&mut self, file: &LabelledFile) -> u32 {
+        let end = file.bytes.len();
+        let place = match self.random.between(0, 9) {
+            0..=3 if !file.spots.is_empty() => self.random.pick(&file.spots).place,
+            4 if !file.spots.is_empty() => self.random.pick(&file.spots).place + 20,
+            5 => end,
+            6 => end + self.random.pick(&[1, 1, 2, 20]),
+            7 => end.saturating_sub(self.random.between(1, 25)),
+            8 => u32::MAX as usize - self.random.pick(&[0, 1]),
+            _ => self.random.between(0, end),
+        };
+        place as u32
+    }
+
+    /// Some numbers to keep; rarely as many as a case may hold.
+    fn entries(&mut self) -> Vec<u32> {
+        let count = match self.random.between(0, 99) {
+            0 => 4_096,
+            1..=4 => 300,
+            _ => self.random.pick(&[0, 1, 2, 3, 7]),
+        };
+        (0..count)
+            .map(|_| match self.random.between(0, 3) {
+                0 => self.random.pick(&[0, 1, 20, 65_535, 65_536, u32::MAX]),
+                _ => self.random.draw() as u32,
+            })
+            .collect()
+    }
+
+    /// Damages a kept index: its size, its length field, its kind, or its
+    /// size and length together.
+    fn harm_kept(&mut self, bytes: &mut Vec<u8>) {
+        let size = bytes.len();
+        match self.random.between(0, 8) {
+            0 => bytes.truncate(self.random.between(0, 5)),
+            1 => bytes.truncate(size - self.random.between(1, 4)),
+            2 => bytes.extend([0; 4].iter().take(self.random.between(1, 4))),
+            3 => bytes[0] = bytes[0].wrapping_add(self.random.pick(&[1, 2, 4, 255, 252])),
+            4 => {
+                let high = self.random.between(1, 3);
+                bytes[high] ^= 1 << self.random.between(0, 7);
+            }
+            5 => bytes[4] = self.random.pick(&[0, 2, 3, 255]),
+            6 => bytes[5] = self.random.pick(&[1, 128, 255]),
+            7 => bytes.clear(),
+            _ => {
+                let part = self.random.between(1, 3);
+                bytes.extend([0; 3].iter().take(part));
+                let length = (bytes.len() - 4) as u32;
+                bytes[..4].copy_from_slice(&length.to_le_bytes());
+            }
+        }
+    }
+
+    /// The bytes of a VAX number of two or four words.
+    fn vax_number(&mut self, words: u32) -> Vec<u8> {
+        let number = self.vax_numbers.deal(&mut self.random);
+        let fraction_bits = 16 * words - 9;
+        let full = (1 << fraction_bits) - 1;
+        let exponent = number.exponent.unwrap_or_else(|| self.random.below(256));
+        let fraction = match number.fraction {
+            Fraction::Zero => 0,
+            Fraction::LowBits => self.random.between(1, 16) as u64,
+            Fraction::Full => full - self.random.pick(&[0, 0, 7, 8]),
+            Fraction::Any => self.random.draw() & full,
+        };
+        let bits = (((number.sign << 8) | exponent) << fraction_bits) | fraction;
+        (0..words)
+            .rev()
+            .flat_map(|word| ((bits >> (16 * word)) as u16).to_le_bytes())
+            .collect()
+    }
+
+    /// Cuts some bytes off or appends some, at times.
+    fn change_length(&mut self, bytes: &mut Vec<u8>) {
+        match self.random.between(0, 9) {
+            0 => bytes.truncate(bytes.len() - 1),
+            1 => bytes.truncate(self.random.between(0, bytes.len() - 1)),
+            2 => {
+                let more = self.random.between(1, 12);
+                bytes.extend(self.random.bytes(more));
+            }
+            _ => {}
+        }
+    }
+}
+
+/// Each byte of the front of a label with each value at its edges.
+fn label_harms(positions: usize) -> Vec<(usize, u8)> {
+    (0..positions)
+        .flat_map(|position| {
+            files::odd_bytes(position)
+                .iter()
+                .map(move |&byte| (position, byte))
+        })
+        .collect()
+}
+
+fn vax_numbers() -> Vec<VaxNumber> {
+    let exponents = [0, 0, 1, 2, 127, 128, 129, 254, 255].map(Some);
+    let fractions = [
+        Fraction::Zero,
+        Fraction::LowBits,
+        Fraction::Full,
+        Fraction::Any,
+    ];
+    let mut numbers = Vec::new();
+    for sign in [0, 1] {
+        for exponent in exponents.into_iter().chain([None; 6]) {
+            for fraction in fractions {
+                numbers.push(VaxNumber {
+                    sign,
+                    exponent,
+                    fraction,
+                });
+            }
+        }
+    }
+    numbers
+}
+
+/// Each limit of each element, with its neighbours on both sides.
+fn limit_values() -> Vec<(u64, i64)> {
+    let mut values = Vec::new();
+    for limits in TABLE {
+        for limit in [limits.minimum, limits.maximum] {
+            values.extend((limit - 1..=limit + 1).map(|value| (limits.element, value)));
+        }
+    }
+    values.sort();
+    values.dedup();
+    values
+}
+
+/// Every number up to 200 that has no limits, and some that would turn into
+/// one that has.
+fn unknown_elements() -> Vec<u64> {
+    let is_known = |element: &u64| TABLE.iter().any(|limits| limits.element == *element);
+    (0..=200)
+        .filter(|element| !is_known(element))
+        .chain([256 + 141, 65_536 + 141, (1 << 32) + 141, u64::MAX])
+        .collect()
+}
+
+#[cfg(test)]
+mod tests {
+    use super::*;
+    use crate::answer_line;
+    use crate::library::INDEPENDENT;
+    use std::collections::HashMap;
+
+    /// The call of a line, with its kind where that is an argument.
+    fn called(line: &str) -> String {
+        let mut words = line.split(' ');
+        match (words.next(), words.next()) {
+            (Some("row_from"), Some(kind)) => format!("row_from {kind}"),
+            (call, _) => call.unwrap_or_default().to_string(),
+        }
+    }
+
+    #[test]
+    fn the_stream_depends_on_the_seed_alone() {
+        let one: Vec<String> = Generator::new(1).take(100).collect();
+        let again: Vec<String> = Generator::new(1).take(100).collect();
+        let other: Vec<String> = Generator::new(2).take(100).collect();
+        assert_eq!(one, again);
+        assert_ne!(one, other);
+    }
+
+    #[test]
+    fn cases_read_back_as_they_were_written() {
+        let mut generator = Generator::new(3);
+        for _ in 0..1_500 {
+            let call = generator.random.weighted(&CALLS);
+            let case = call(&mut generator);
+            assert_eq!(Case::parse(case.to_string().as_bytes()), Some(case));
+        }
+    }
+
+    #[test]
+    fn some_hundreds_of_cases_stay_small() {
+        for seed in 0..4 {
+            let size: usize = Generator::new(seed).take(500).map(|line| line.len()).sum();
+            assert!(size < 4_000_000, "{size} bytes for seed {seed}");
+        }
+    }
+
+    /// Each call is seen to succeed and to be refused in every way it can be,
+    /// save for sizes that no case reaches.
+    #[test]
+    fn every_refusal_of_every_call_comes_up() {
+        let mut seen: HashMap<(String, String), u32> = HashMap::new();
+        for line in Generator::new(5).take(12_000) {
+            let answer = answer_line(&INDEPENDENT, line.as_bytes());
+            let call = called(&line);
+            let mut words = answer.split(' ');
+            let kind = match (words.next(), words.next()) {
+                (Some("ref"), Some(number)) => number.to_string(),
+                (first, _) => first.unwrap_or_default().to_string(),
+            };
+            *seen.entry((call, kind)).or_default() += 1;
+        }
+        let expected: [(&str, &[&str]); 19] = [
+            ("read_label", &["ok", "1", "2", "3"]),
+            ("write_label", &["ok", "2", "15", "8"]),
+            ("check_labelled", &["ok", "1", "2", "3", "4", "5"]),
+            ("check_waveform", &["ok", "12"]),
+            (
+                "read_row_labelled",
+                &["ok", "1", "2", "3", "4", "5", "6", "7"],
+            ),
+            ("read_row_waveform", &["ok", "12", "6", "7"]),
+            ("jump_labelled", &["ok", "6", "11", "1", "2", "3", "4", "7"]),
+            ("jump_waveform", &["ok", "12", "6", "7"]),
+            ("row_from labelled1", &["ok", "6", "1", "2", "3", "4"]),
+            ("row_from waveform", &["ok", "12", "6"]),
+            ("build_index", &["ok", "1", "2", "3", "4", "5", "8"]),
+            ("check_index", &["ok", "1", "2", "3", "4", "5", "11"]),
+            ("keep_index", &["ok", "8"]),
+            ("load_kept", &["ok", "13", "8"]),
+            ("sample", &["ok"]),
+            ("vax_f", &["ok", "1", "9"]),
+            ("vax_d", &["ok", "1", "9"]),
+            ("opening", &["ok", "1", "9"]),
+            ("verdict", &["ok", "10"]),
+        ];
+        for (call, kinds) in expected {
+            for kind in kinds {
+                let key = (call.to_string(), kind.to_string());
+                let count = seen.remove(&key).unwrap_or(0);
+                assert!(count >= 5, "{call} gave {kind} only {count} times");
+            }
+        }
+        // What is left can only be lines that are no cases.
+        assert!(seen.keys().all(|(_, kind)| kind == "bad"), "{seen:?}");
+    }
+}

@@ -1,0 +1,51 @@
+//! The two implementations of the calls, each as a table of functions.
+
+mod second;
+
+pub use second::INDEPENDENT;
+
+use crestulbino::{Built, Kind, Label, Opening, Refused, Row, Verdict, Window};
+
+/// What a call comes to.
+pub type Answer<T> = Result<T, Refused>;
+
+/// An implementation of the calls, with the types of the crate over the proved library.
+#[derive(Clone, Copy, Debug)]
+pub struct Library {
+    pub read_label: fn(&[u8]) -> Answer<Label>,
+    pub write_label: fn(&[u8], usize, &mut [u8]) -> Answer<usize>,
+    pub check: fn(Kind, &[u8]) -> Answer<usize>,
+    pub read_row: fn(Kind, &[u8], usize, Window) -> Answer<Row<'_>>,
+    pub jump_labelled: for<'a> fn(&'a [u8], &[u32], usize, Window) -> Answer<Row<'a>>,
+    pub jump_waveform: fn(&[u8], usize, Window) -> Answer<Row<'_>>,
+    pub row_from: fn(Kind, &[u8], usize) -> Answer<Row<'_>>,
+    pub build_index: fn(&[u8], &mut [u32]) -> Answer<Built>,
+    pub check_index: fn(&[u8], &[u32]) -> Answer<()>,
+    pub keep_index: fn(&[u32], &mut [u8]) -> Answer<usize>,
+    pub load_kept: fn(&[u8], &mut [u32]) -> Answer<usize>,
+    pub sample: fn(u8) -> i64,
+    pub vax_f: fn(&[u8]) -> Answer<f64>,
+    pub vax_d: fn(&[u8]) -> Answer<f64>,
+    pub opening: fn(&[u8]) -> Answer<Opening>,
+    pub verdict: fn(u64, i64) -> Answer<Verdict>,
+}
+
+/// The proved library, through the C boundary and the crate over it.
+pub const PROVED: Library = Library {
+    read_label: crestulbino::read_label,
+    write_label: crestulbino::write_label,
+    check: crestulbino::check,
+    read_row: crestulbino::read_row,
+    jump_labelled: crestulbino::jump_labelled,
+    jump_waveform: crestulbino::jump_waveform,
+    row_from: crestulbino::row_from,
+    build_index: crestulbino::build_index,
+    check_index: crestulbino::check_index,
+    keep_index: crestulbino::keep_index,
+    load_kept: crestulbino::load_kept,
+    sample: crestulbino::sample,
+    vax_f: crestulbino::vax_f,
+    vax_d: crestulbino::vax_d,
+    opening: crestulbino::opening,
+    verdict: crestulbino::verdict,
+};

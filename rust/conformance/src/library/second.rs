@@ -1,0 +1,143 @@
+//! The second implementation behind the calls' types.
+
+use super::Library;
+use crestulbino::{Built, Kind, Label, Opening, Refusal, Refused, Row, Verdict, Window};
+use independent::refusal::{self, Reason};
+use independent::{altimeter, kept, label, labelled, orbit, row_index, vax, waveform, window};
+
+/// The second implementation, written from the documents alone.
+pub const INDEPENDENT: Library = Library {
+    read_label: |bytes| {
+        let label = label::read(bytes).map_err(refused)?;
+        Ok(Label {
+            agency: label.agency,
+            class: label.class,
+            description: label.description,
+            length: label.length as usize,
+        })
+    },
+    write_label: |head, length, buffer| count(label::write(head, length as u64, buffer)),
+    check: |kind, file| {
+        count(match kind {
+            Kind::Labelled => labelled::check(file),
+            Kind::Waveform => waveform::check(file),
+        })
+    },
+    read_row: |kind, file, row, window| {
+        let (row, window) = (row as u64, part_of_row(window));
+        shown(match kind {
+            Kind::Labelled => labelled::read_row(file, row, window),
+            Kind::Waveform => waveform::read_row(file, row, window),
+        })
+    },
+    jump_labelled: |file, list, row, window| {
+        shown(row_index::jump(file, list, row as u64, part_of_row(window)))
+    },
+    jump_waveform: |file, row, window| shown(waveform::jump(file, row as u64, part_of_row(window))),
+    row_from: |kind, file, from| {
+        shown(match kind {
+            Kind::Labelled => labelled::row_from(file, from as u64),
+            Kind::Waveform => waveform::row_from(file, from as u64),
+        })
+    },
+    build_index: |file, list| {
+        let built = row_index::build(file, list).map_err(refused)?;
+        Ok(Built {
+            entries: built.entries as usize,
+            rows: built.rows as usize,
+        })
+    },
+    check_index: |file, list| row_index::check(file, list).map_err(refused),
+    keep_index: |list, buffer| count(kept::keep(list, buffer)),
+    load_kept: |bytes, list| count(kept::load(bytes, list)),
+    sample: |byte| waveform::sample(byte).into(),
+    vax_f: |bytes| vax::f_float(bytes).map_err(refused),
+    vax_d: |bytes| vax::d_float(bytes).map_err(refused),
+    opening: |bytes| {
+        let opening = orbit::opening(bytes).map_err(refused)?;
+        Ok(Opening {
+            orbit: opening.orbit.into(),
+            start: opening.start,
+            stop: opening.stop,
+        })
+    },
+    verdict: |element, value| {
+        Ok(match altimeter::verdict(element, value).map_err(refused)? {
+            altimeter::Verdict::Below => Verdict::Below,
+            altimeter::Verdict::Inside => Verdict::Inside,
+            altimeter::Verdict::Above => Verdict::Above,
+        })
+    },
+};
+
+fn count(answer: Result<u64, refusal::Refusal>) -> Result<usize, Refused> {
+    answer.map(|count| count as usize).map_err(refused)
+}
+
+fn part_of_row(window: Window) -> window::Window {
+    window::Window::new(window.first as u64, window.count as u64)
+}
+
+fn shown(answer: Result<window::Part<'_>, refusal::Refusal>) -> Result<Row<'_>, Refused> {
+    let part = answer.map_err(refused)?;
+    Ok(Row {
+        place: part.place as usize,
+        bytes: part.bytes,
+    })
+}
+
+fn refused(refusal: refusal::Refusal) -> Refused {
+    Refused {
+        refusal: named(refusal.reason),
+        place: refusal.place as usize,
+    }
+}
+
+fn named(reason: Reason) -> Refusal {
+    match reason {
+        Reason::Short => Refusal::Short,
+        Reason::BadLabel => Refusal::BadLabel,
+        Reason::BadLength => Refusal::BadLength,
+        Reason::Overrun => Refusal::Overrun,
+        Reason::Deep => Refusal::Deep,
+        Reason::NoRow => Refusal::NoRow,
+        Reason::NoPart => Refusal::NoPart,
+        Reason::Small => Refusal::Small,
+        Reason::Reserved => Refusal::Reserved,
+        Reason::Unknown => Refusal::Unknown,
+        Reason::BadIndex => Refusal::BadIndex,
+        Reason::Ragged => Refusal::Ragged,
+        Reason::BadKept => Refusal::BadKept,
+        Reason::TooBig => Refusal::TooBig,
+        Reason::TooLong => Refusal::TooLong,
+    }
+}
+
+#[cfg(test)]
+mod tests {
+    use super::*;
+
+    #[test]
+    fn both_sides_number_refusals_alike() {
+        let reasons = [
+            Reason::Short,
+            Reason::BadLabel,
+            Reason::BadLength,
+            Reason::Overrun,
+            Reason::Deep,
+            Reason::NoRow,
+            Reason::NoPart,
+            Reason::Small,
+            Reason::Reserved,
+            Reason::Unknown,
+            Reason::BadIndex,
+            Reason::Ragged,
+            Reason::BadKept,
+            Reason::TooBig,
+            Reason::TooLong,
+        ];
+        for reason in reasons {
+            assert_eq!(named(reason).number(), u64::from(reason.number()));
+        }
+    }
+}

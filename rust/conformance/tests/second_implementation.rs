@@ -1,0 +1,89 @@
+//! The second implementation beside itself, on generated files: the pass beside a recursion, the
+//! jump beside reading.
+
+use conformance::generator::{files, random::Random};
+use independent::refusal::{Reason, Refusal};
+use independent::window::Window;
+use independent::{label, labelled, row_index};
+
+/// The check once more, as one function that calls itself on each group.
+fn check_by_recursion(file: &[u8], from: usize, end: usize, left: u8) -> Result<u64, Refusal> {
+    let mut rows = 0;
+    let mut place = from;
+    while place < end {
+        let at = |reason: Reason| reason.at(place as u64);
+        if left == 0 {
+            return Err(at(Reason::Deep));
+        }
+        let label = label::read(&file[place..end]).map_err(|refusal| at(refusal.reason))?;
+        let (value, length) = (place + 20, label.length as usize);
+        if length > end - value {
+            return Err(at(Reason::Overrun));
+        }
+        rows += match label.class {
+            b'Z' => check_by_recursion(file, value, value + length, left - 1)?,
+            _ => 1,
+        };
+        place = value + length;
+    }
+    Ok(rows)
+}
+
+#[test]
+fn the_pass_agrees_with_recursion() {
+    let mut random = Random::new(20);
+    let mut accepted = 0;
+    for _ in 0..4_000 {
+        let mut file = files::labelled(&mut random);
+        if random.chance(60) {
+            files::damage(&mut file, &mut random);
+        }
+        let expected = check_by_recursion(&file.bytes, 0, file.bytes.len(), 8);
+        assert_eq!(labelled::check(&file.bytes), expected);
+        accepted += u32::from(expected.is_ok());
+    }
+    assert!((1_000..3_900).contains(&accepted), "{accepted} accepted");
+}
+
+#[test]
+fn a_right_index_gives_what_reading_gives() {
+    let mut random = Random::new(16);
+    for _ in 0..1_500 {
+        let file = files::labelled(&mut random).bytes;
+        let Ok(rows) = labelled::check(&file) else {
+            continue;
+        };
+        let mut list = [0; 64];
+        let used = row_index::build(&file, &mut list).unwrap().entries as usize;
+        for number in 0..rows + 2 {
+            for window in [Window::new(0, 0), Window::new(1, 2), Window::new(0, 20)] {
+                assert_eq!(
+                    row_index::jump(&file, &list[..used], number, window),
+                    labelled::read_row(&file, number, window)
+                );
+            }
+        }
+    }
+}
+
+#[test]
+fn going_on_from_row_to_row_gives_what_reading_gives() {
+    let mut random = Random::new(17);
+    for _ in 0..1_500 {
+        let file = files::labelled(&mut random).bytes;
+        let Ok(rows) = labelled::check(&file) else {
+            continue;
+        };
+        let mut from = 0;
+        for number in 0..rows {
+            let part = labelled::row_from(&file, from).unwrap();
+            let whole = Window::new(0, part.bytes.len() as u64);
+            assert_eq!(labelled::read_row(&file, number, whole), Ok(part));
+            from = part.place + part.bytes.len() as u64;
+        }
+        assert_eq!(
+            labelled::row_from(&file, from),
+            Err(Reason::NoRow.at_start())
+        );
+    }
+}

@@ -1,0 +1,237 @@
+//! Sizes that no line of text reaches: files, lists and buffers of 4 GiB and around it, lent for
+//! real to both implementations. Zeroed memory takes no room until it is written to, and no call
+//! here reads or writes much of it: a labelled file has 43 labels, the others refuse early or
+//! look at the front only.
+
+use conformance::library::{INDEPENDENT, PROVED};
+use conformance::Library;
+use crestulbino::{Kind, Refusal, Refused, Row, Window};
+
+const BOTH: [Library; 2] = [INDEPENDENT, PROVED];
+
+/// The most bytes that a file may have.
+const MOST: usize = 4_294_967_295;
+
+const LONGEST_VALUE: usize = 99_999_999;
+
+/// The label, and the length, of the last row of the largest labelled file.
+const LAST_LABEL: usize = 42 * (20 + LONGEST_VALUE);
+const LAST_LENGTH: usize = MOST - LAST_LABEL - 20;
+
+const EMPTY: Window = Window::new(0, 0);
+
+fn refused<T>(refusal: Refusal) -> Result<T, Refused> {
+    refused_at(refusal, 0)
+}
+
+fn refused_at<T>(refusal: Refusal, place: usize) -> Result<T, Refused> {
+    Err(Refused { refusal, place })
+}
+
+/// Where a row stands, without its bytes.
+fn stands(row: Result<Row<'_>, Refused>) -> Result<(usize, usize), Refused> {
+    row.map(|row| (row.place, row.bytes.len()))
+}
+
+/// A file of so many bytes, with 43 rows in the largest one that is allowed.
+fn labelled(size: usize) -> Vec<u8> {
+    let mut file = vec![0; size];
+    let mut place = 0;
+    while place + 20 <= size {
+        let length = (size - place - 20).min(LONGEST_VALUE);
+        let label = format!("NJPL1I00DEMO{length:08}");
+        file[place..place + 20].copy_from_slice(label.as_bytes());
+        place += 20 + length;
+    }
+    file
+}
+
+#[test]
+fn the_largest_labelled_file() {
+    let file = labelled(MOST);
+    let index = [0, 1_600_000_304, 3_200_000_608];
+    for library in BOTH {
+        assert_eq!((library.check)(Kind::Labelled, &file), Ok(43));
+        let mut list = [7; 4];
+        let built = (library.build_index)(&file, &mut list).unwrap();
+        assert_eq!((built.entries, built.rows), (3, 43));
+        assert_eq!(list, [index[0], index[1], index[2], 7]);
+        assert_eq!((library.check_index)(&file, &index), Ok(()));
+        assert_eq!(
+            (library.check_index)(&file, &list),
+            refused(Refusal::BadIndex)
+        );
+        for (first, count, expected) in [
+            (LAST_LENGTH - 1, 1, Ok((MOST - 1, 1))),
+            (LAST_LENGTH, 0, Ok((MOST, 0))),
+            (LAST_LENGTH, 1, refused(Refusal::NoPart)),
+            (0, LAST_LENGTH, Ok((LAST_LABEL + 20, LAST_LENGTH))),
+        ] {
+            let window = Window::new(first, count);
+            let read = (library.read_row)(Kind::Labelled, &file, 42, window);
+            assert_eq!(stands(read), expected);
+            let jumped = (library.jump_labelled)(&file, &index, 42, window);
+            assert_eq!(stands(jumped), expected);
+        }
+        for (from, expected) in [
+            (LAST_LABEL, Ok((LAST_LABEL + 20, LAST_LENGTH))),
+            (MOST - 19, refused_at(Refusal::Short, MOST - 19)),
+            (MOST - 20, refused_at(Refusal::BadLabel, MOST - 20)),
+            (MOST, refused(Refusal::NoRow)),
+            (MOST + 1, refused(Refusal::NoRow)),
+        ] {
+            let row = (library.row_from)(Kind::Labelled, &file, from);
+            assert_eq!(stands(row), expected);
+        }
+        let entry = |place: usize| [u32::try_from(place).unwrap()];
+        let jumped = (library.jump_labelled)(&file, &entry(MOST), 0, EMPTY);
+        assert_eq!(stands(jumped), refused(Refusal::NoRow));
+        let jumped = (library.jump_labelled)(&file[1..], &entry(MOST), 0, EMPTY);
+        assert_eq!(stands(jumped), refused(Refusal::BadIndex));
+    }
+}
+
+#[test]
+fn zeros_of_the_largest_size_are_no_labelled_file() {
+    let file = vec![0; MOST];
+    for library in BOTH {
+        let rows = (library.check)(Kind::Labelled, &file);
+        assert_eq!(rows, refused(Refusal::BadLabel));
+    }
+}
+
+#[test]
+fn one_byte_more_than_a_file_may_have() {
+    let file = labelled(MOST + 1);
+    for library in BOTH {
+        for kind in [Kind::Labelled, Kind::Waveform] {
+            assert_eq!((library.check)(kind, &file), refused(Refusal::TooBig));
+            let read = (library.read_row)(kind, &file, 0, EMPTY);
+            assert_eq!(stands(read), refused(Refusal::TooBig));
+            let row = (library.row_from)(kind, &file, 0);
+            assert_eq!(stands(row), refused(Refusal::TooBig));
+        }
+        let jumped = (library.jump_labelled)(&file, &[], 0, EMPTY);
+        assert_eq!(stands(jumped), refused(Refusal::TooBig));
+        let jumped = (library.jump_waveform)(&file, 0, EMPTY);
+        assert_eq!(stands(jumped), refused(Refusal::TooBig));
+        let mut list = [7; 4];
+        let built = (library.build_index)(&file, &mut list);
+        assert_eq!(built, refused(Refusal::TooBig));
+        assert_eq!(list, [7; 4]);
+        let checked = (library.check_index)(&file, &[0]);
+        assert_eq!(checked, refused(Refusal::TooBig));
+    }
+}
+
+#[test]
+fn the_largest_waveform_files() {
+    let rows = MOST / 2_080;
+    let file = vec![0; rows * 2_080];
+    let last = (rows - 1) * 2_080 + 32;
+    for library in BOTH {
+        assert_eq!((library.check)(Kind::Waveform, &file), Ok(2_064_888));
+        for (row, window, expected) in [
+            (rows - 1, Window::new(0, 2_048), Ok((last, 2_048))),
+            (rows - 1, Window::new(2_047, 1), Ok((4_294_967_039, 1))),
+            (rows - 1, Window::new(2_048, 1), refused(Refusal::NoPart)),
+            (rows, EMPTY, refused(Refusal::NoRow)),
+        ] {
+            let read = (library.read_row)(Kind::Waveform, &file, row, window);
+            assert_eq!(stands(read), expected);
+            let jumped = (library.jump_waveform)(&file, row, window);
+            assert_eq!(stands(jumped), expected);
+        }
+        for (from, expected) in [
+            (last - 32, Ok((last, 2_048))),
+            (last, refused(Refusal::NoRow)),
+            (rows * 2_080, refused(Refusal::NoRow)),
+        ] {
+            let row = (library.row_from)(Kind::Waveform, &file, from);
+            assert_eq!(stands(row), expected);
+        }
+    }
+}
+
+#[test]
+fn a_ragged_waveform_file_of_the_largest_size() {
+    let file = vec![0; MOST];
+    for library in BOTH {
+        let rows = (library.check)(Kind::Waveform, &file);
+        assert_eq!(rows, refused(Refusal::Ragged));
+        let read = (library.read_row)(Kind::Waveform, &file, 0, EMPTY);
+        assert_eq!(stands(read), refused(Refusal::Ragged));
+        let jumped = (library.jump_waveform)(&file, 0, EMPTY);
+        assert_eq!(stands(jumped), refused(Refusal::Ragged));
+        let row = (library.row_from)(Kind::Waveform, &file, 0);
+        assert_eq!(stands(row), refused(Refusal::Ragged));
+    }
+}
+
+/// The most entries that can be kept.
+const MOST_ENTRIES: usize = 1_073_741_823;
+
+#[test]
+fn the_most_entries_to_be_kept() {
+    let list = vec![0; MOST_ENTRIES + 1];
+    let needed = 6 + 4 * MOST_ENTRIES;
+    let mut buffer = vec![0; needed - 1];
+    for library in BOTH {
+        let kept = (library.keep_index)(&list, &mut buffer);
+        assert_eq!(kept, refused(Refusal::TooBig));
+        let kept = (library.keep_index)(&list[1..], &mut buffer);
+        assert_eq!(kept, refused(Refusal::Small));
+    }
+}
+
+#[test]
+fn kept_indexes_around_the_largest() {
+    let kept = |size: usize, length: u32| {
+        let mut bytes = vec![0; size];
+        bytes[..4].copy_from_slice(&length.to_le_bytes());
+        bytes[4] = 1;
+        bytes
+    };
+    let most = kept(6 + 4 * MOST_ENTRIES, 2 + 4 * MOST_ENTRIES as u32);
+    // One entry more: its length has turned to that of no entries.
+    let turned = kept(6 + 4 * (MOST_ENTRIES + 1), 2);
+    let part_of_an_entry = kept(MOST + 4, u32::MAX);
+    let mut short = vec![0; MOST_ENTRIES - 1];
+    for library in BOTH {
+        let loaded = (library.load_kept)(&most, &mut short);
+        assert_eq!(loaded, refused(Refusal::Small));
+        for bytes in [&turned, &part_of_an_entry, &most[..MOST]] {
+            let loaded = (library.load_kept)(bytes, &mut short);
+            assert_eq!(loaded, refused(Refusal::BadKept));
+        }
+    }
+}
+
+/// Bytes that are no file have no limit; in 32 bits these sizes would be too small.
+#[test]
+fn more_bytes_than_a_file_may_have_where_none_is_lent() {
+    const TURN: usize = 1 << 32;
+    let mut label = vec![0; TURN + 19];
+    label[..20].copy_from_slice(b"NJPL1I00DEMO00000003");
+    let mut head = vec![0; TURN + 12];
+    head[..12].copy_from_slice(b"NJPL1I00DEMO");
+    let zeros = vec![0; TURN + 19];
+    for library in BOTH {
+        assert_eq!(
+            (library.read_label)(&label).map(|label| label.length),
+            Ok(3)
+        );
+        let mut buffer = vec![0; TURN + 19];
+        let written = (library.write_label)(b"NJPL1I00DEMO", 3, &mut buffer);
+        assert_eq!(written, Ok(20));
+        assert_eq!(buffer[..24], *b"NJPL1I00DEMO00000003\0\0\0\0");
+        let written = (library.write_label)(&head, 3, &mut buffer);
+        assert_eq!(written, refused(Refusal::BadLabel));
+        assert_eq!((library.vax_f)(&zeros[..TURN + 3]), Ok(0.0));
+        assert_eq!((library.vax_d)(&zeros[..TURN + 7]), Ok(0.0));
+        assert_eq!(
+            (library.opening)(&zeros).map(|opening| opening.orbit),
+            Ok(0)
+        );
+    }
+}

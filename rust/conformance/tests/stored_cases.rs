@@ -1,0 +1,34 @@
+//! The stored cases: both implementations give the stored answers.
+
+use conformance::library::{INDEPENDENT, PROVED};
+use conformance::program::answer_lines;
+
+fn same(cases: &str, answers: &str) {
+    assert_eq!(cases.lines().count(), answers.lines().count());
+    for (name, library) in [("independent", INDEPENDENT), ("proved", PROVED)] {
+        let mut given = Vec::new();
+        answer_lines(&library, cases.as_bytes(), &mut given).unwrap();
+        let given = String::from_utf8(given).unwrap();
+        for ((case, answer), given) in cases.lines().zip(answers.lines()).zip(given.lines()) {
+            let shown: String = case.chars().take(400).collect();
+            assert_eq!(given, answer, "{name}: {shown}");
+        }
+        assert_eq!(given.len(), answers.len(), "{name}");
+    }
+}
+
+#[test]
+fn stored_answers() {
+    same(
+        include_str!("data/stored.cases"),
+        include_str!("data/stored.answers"),
+    );
+}
+
+#[test]
+fn stored_answers_of_row_from() {
+    same(
+        include_str!("data/row_from.cases"),
+        include_str!("data/row_from.answers"),
+    );
+}

@@ -1,0 +1,335 @@
+//! The boundary. The declarations stand in the order of `include/crestulbino.h`, with its names,
+//! and a test compares them with it; nothing compares either with the archive but the tests that
+//! call it. Behind them, in the same order, each has a function that is safe to call: it takes the
+//! same arguments as slices and references.
+//!
+//! This is the crate's only unsafe code, and one argument covers every call in it. What the header
+//! asks of a caller is that
+//!
+//! - a pointer with a length is good for that many elements and aligned: it comes from a slice with
+//!   its length. That of an empty slice is not null, which is more than is asked;
+//! - a pointer without a length is good for what it points to: it comes from a reference;
+//! - outputs overlap neither one another nor an input, and nobody writes to an input: outputs are
+//!   `&mut`, inputs `&`, and all of them live until the call returns.
+//!
+//! The library keeps no pointer, reads only inputs, and writes whole numbers, bytes and floats, of
+//! which every pattern is a value.
+
+/// What a call returns: 0 and 0 for an answer, or a refusal's number and place.
+#[repr(C)]
+#[derive(Clone, Copy, Debug, PartialEq, Eq)]
+#[must_use]
+pub(crate) struct Outcome {
+    pub refusal: u64,
+    pub place: u64,
+}
+
+#[rustfmt::skip] // A line for a declaration, as in the header.
+unsafe extern "C" {
+    fn crest_read_label(bytes: *const u8, bytes_len: usize, agency: *mut [u8; 4], class_: *mut u8, description: *mut [u8; 4], length: *mut u64) -> Outcome;
+    fn crest_write_label(head: *const u8, head_len: usize, length: u64, out: *mut u8, out_len: usize, written: *mut u64) -> Outcome;
+    fn crest_check_labelled(file: *const u8, file_len: usize, rows: *mut u64) -> Outcome;
+    fn crest_check_waveform(file: *const u8, file_len: usize, rows: *mut u64) -> Outcome;
+    fn crest_read_row_labelled(file: *const u8, file_len: usize, row: u64, first: u64, count: u64, place: *mut u64, shown: *mut u64) -> Outcome;
+    fn crest_read_row_waveform(file: *const u8, file_len: usize, row: u64, first: u64, count: u64, place: *mut u64, shown: *mut u64) -> Outcome;
+    fn crest_jump_labelled(file: *const u8, file_len: usize, list: *const u32, list_len: usize, row: u64, first: u64, count: u64, place: *mut u64, shown: *mut u64) -> Outcome;
+    fn crest_jump_waveform(file: *const u8, file_len: usize, row: u64, first: u64, count: u64, place: *mut u64, shown: *mut u64) -> Outcome;
+    fn crest_row_from_labelled(file: *const u8, file_len: usize, from: u64, place: *mut u64, shown: *mut u64) -> Outcome;
+    fn crest_row_from_waveform(file: *const u8, file_len: usize, from: u64, place: *mut u64, shown: *mut u64) -> Outcome;
+    fn crest_build_index(file: *const u8, file_len: usize, list: *mut u32, list_len: usize, entries: *mut u64, rows: *mut u64) -> Outcome;
+    fn crest_check_index(file: *const u8, file_len: usize, list: *const u32, list_len: usize) -> Outcome;
+    fn crest_keep_index(list: *const u32, list_len: usize, out: *mut u8, out_len: usize, written: *mut u64) -> Outcome;
+    fn crest_load_kept(bytes: *const u8, bytes_len: usize, list: *mut u32, list_len: usize, entries: *mut u64) -> Outcome;
+    fn crest_sample(sample: u8) -> i64;
+    fn crest_vax_f(bytes: *const u8, bytes_len: usize, number: *mut f64) -> Outcome;
+    fn crest_vax_d(bytes: *const u8, bytes_len: usize, number: *mut f64) -> Outcome;
+    fn crest_opening(bytes: *const u8, bytes_len: usize, orbit: *mut u64, start: *mut f64, stop: *mut f64) -> Outcome;
+    fn crest_verdict(element: u64, value: i64, verdict: *mut u64) -> Outcome;
+}
+
+#[inline]
+pub(crate) fn read_label(
+    bytes: &[u8],
+    agency: &mut [u8; 4],
+    class: &mut u8,
+    description: &mut [u8; 4],
+    length: &mut u64,
+) -> Outcome {
+    // SAFETY: `bytes` is a shared slice with its length; `agency`, `class`, `description` and `length` are lent alone.
+    unsafe {
+        crest_read_label(
+            bytes.as_ptr(),
+            bytes.len(),
+            agency,
+            class,
+            description,
+            length,
+        )
+    }
+}
+
+#[inline]
+pub(crate) fn write_label(head: &[u8], length: u64, out: &mut [u8], written: &mut u64) -> Outcome {
+    // SAFETY: `head` is a shared slice with its length; `out` and `written` are lent alone.
+    unsafe {
+        crest_write_label(
+            head.as_ptr(),
+            head.len(),
+            length,
+            out.as_mut_ptr(),
+            out.len(),
+            written,
+        )
+    }
+}
+
+#[inline]
+pub(crate) fn check_labelled(file: &[u8], rows: &mut u64) -> Outcome {
+    // SAFETY: `file` is a shared slice with its length; `rows` is lent alone.
+    unsafe { crest_check_labelled(file.as_ptr(), file.len(), rows) }
+}
+
+#[inline]
+pub(crate) fn check_waveform(file: &[u8], rows: &mut u64) -> Outcome {
+    // SAFETY: `file` is a shared slice with its length; `rows` is lent alone.
+    unsafe { crest_check_waveform(file.as_ptr(), file.len(), rows) }
+}
+
+#[inline]
+pub(crate) fn read_row_labelled(
+    file: &[u8],
+    row: u64,
+    first: u64,
+    count: u64,
+    place: &mut u64,
+    shown: &mut u64,
+) -> Outcome {
+    // SAFETY: `file` is a shared slice with its length; `place` and `shown` are lent alone.
+    unsafe { crest_read_row_labelled(file.as_ptr(), file.len(), row, first, count, place, shown) }
+}
+
+#[inline]
+pub(crate) fn read_row_waveform(
+    file: &[u8],
+    row: u64,
+    first: u64,
+    count: u64,
+    place: &mut u64,
+    shown: &mut u64,
+) -> Outcome {
+    // SAFETY: `file` is a shared slice with its length; `place` and `shown` are lent alone.
+    unsafe { crest_read_row_waveform(file.as_ptr(), file.len(), row, first, count, place, shown) }
+}
+
+#[inline]
+pub(crate) fn jump_labelled(
+    file: &[u8],
+    list: &[u32],
+    row: u64,
+    first: u64,
+    count: u64,
+    place: &mut u64,
+    shown: &mut u64,
+) -> Outcome {
+    // SAFETY: `file` and `list` are shared slices with their lengths; `place` and `shown` are lent alone.
+    unsafe {
+        crest_jump_labelled(
+            file.as_ptr(),
+            file.len(),
+            list.as_ptr(),
+            list.len(),
+            row,
+            first,
+            count,
+            place,
+            shown,
+        )
+    }
+}
+
+#[inline]
+pub(crate) fn jump_waveform(
+    file: &[u8],
+    row: u64,
+    first: u64,
+    count: u64,
+    place: &mut u64,
+    shown: &mut u64,
+) -> Outcome {
+    // SAFETY: `file` is a shared slice with its length; `place` and `shown` are lent alone.
+    unsafe { crest_jump_waveform(file.as_ptr(), file.len(), row, first, count, place, shown) }
+}
+
+#[inline]
+pub(crate) fn row_from_labelled(
+    file: &[u8],
+    from: u64,
+    place: &mut u64,
+    shown: &mut u64,
+) -> Outcome {
+    // SAFETY: `file` is a shared slice with its length; `place` and `shown` are lent alone.
+    unsafe { crest_row_from_labelled(file.as_ptr(), file.len(), from, place, shown) }
+}
+
+#[inline]
+pub(crate) fn row_from_waveform(
+    file: &[u8],
+    from: u64,
+    place: &mut u64,
+    shown: &mut u64,
+) -> Outcome {
+    // SAFETY: `file` is a shared slice with its length; `place` and `shown` are lent alone.
+    unsafe { crest_row_from_waveform(file.as_ptr(), file.len(), from, place, shown) }
+}
+
+#[inline]
+pub(crate) fn build_index(
+    file: &[u8],
+    list: &mut [u32],
+    entries: &mut u64,
+    rows: &mut u64,
+) -> Outcome {
+    // SAFETY: `file` is a shared slice with its length; `list`, `entries` and `rows` are lent alone.
+    unsafe {
+        crest_build_index(
+            file.as_ptr(),
+            file.len(),
+            list.as_mut_ptr(),
+            list.len(),
+            entries,
+            rows,
+        )
+    }
+}
+
+#[inline]
+pub(crate) fn check_index(file: &[u8], list: &[u32]) -> Outcome {
+    // SAFETY: `file` and `list` are shared slices with their lengths.
+    unsafe { crest_check_index(file.as_ptr(), file.len(), list.as_ptr(), list.len()) }
+}
+
+#[inline]
+pub(crate) fn keep_index(list: &[u32], out: &mut [u8], written: &mut u64) -> Outcome {
+    // SAFETY: `list` is a shared slice with its length; `out` and `written` are lent alone.
+    unsafe {
+        crest_keep_index(
+            list.as_ptr(),
+            list.len(),
+            out.as_mut_ptr(),
+            out.len(),
+            written,
+        )
+    }
+}
+
+#[inline]
+pub(crate) fn load_kept(bytes: &[u8], list: &mut [u32], entries: &mut u64) -> Outcome {
+    // SAFETY: `bytes` is a shared slice with its length; `list` and `entries` are lent alone.
+    unsafe {
+        crest_load_kept(
+            bytes.as_ptr(),
+            bytes.len(),
+            list.as_mut_ptr(),
+            list.len(),
+            entries,
+        )
+    }
+}
+
+#[inline]
+pub(crate) fn sample(sample: u8) -> i64 {
+    // SAFETY: a number goes in and a number comes back; no memory is lent.
+    unsafe { crest_sample(sample) }
+}
+
+#[inline]
+pub(crate) fn vax_f(bytes: &[u8], number: &mut f64) -> Outcome {
+    // SAFETY: `bytes` is a shared slice with its length; `number` is lent alone.
+    unsafe { crest_vax_f(bytes.as_ptr(), bytes.len(), number) }
+}
+
+#[inline]
+pub(crate) fn vax_d(bytes: &[u8], number: &mut f64) -> Outcome {
+    // SAFETY: `bytes` is a shared slice with its length; `number` is lent alone.
+    unsafe { crest_vax_d(bytes.as_ptr(), bytes.len(), number) }
+}
+
+#[inline]
+pub(crate) fn opening(bytes: &[u8], orbit: &mut u64, start: &mut f64, stop: &mut f64) -> Outcome {
+    // SAFETY: `bytes` is a shared slice with its length; `orbit`, `start` and `stop` are lent alone.
+    unsafe { crest_opening(bytes.as_ptr(), bytes.len(), orbit, start, stop) }
+}
+
+#[inline]
+pub(crate) fn verdict(element: u64, value: i64, verdict: &mut u64) -> Outcome {
+    // SAFETY: `verdict` is lent alone.
+    unsafe { crest_verdict(element, value, verdict) }
+}
+
+#[cfg(test)]
+mod tests {
+    use super::*;
+    use std::ptr::{null, null_mut};
+
+    const fn refused(refusal: u64) -> Outcome {
+        Outcome { refusal, place: 0 }
+    }
+
+    /// The header allows a null pointer with length 0, which no slice has.
+    #[test]
+    fn an_empty_slice_may_be_a_null_pointer() {
+        const ANSWERED: Outcome = refused(0);
+        let (mut one, mut two) = (7, 7);
+        let (mut agency, mut class, mut description) = ([7; 4], 7, [7; 4]);
+        let (mut start, mut stop) = (7.0, 7.0);
+        let head = b"NJPL1I00DEMO";
+        // SAFETY: each pointer with a length is null with length 0, or that of `head` with its
+        // length; the others point to the variables above, no two of a call to the same.
+        unsafe {
+            let label = crest_read_label(
+                null(),
+                0,
+                &mut agency,
+                &mut class,
+                &mut description,
+                &mut one,
+            );
+            assert_eq!(label, refused(1));
+            let written = crest_write_label(null(), 0, 0, null_mut(), 0, &mut one);
+            assert_eq!(written, refused(2));
+            let written = crest_write_label(head.as_ptr(), 12, 0, null_mut(), 0, &mut one);
+            assert_eq!(written, refused(8));
+            for read in [
+                crest_read_row_labelled,
+                crest_read_row_waveform,
+                crest_jump_waveform,
+            ] {
+                assert_eq!(read(null(), 0, 0, 0, 0, &mut one, &mut two), refused(6));
+            }
+            let jumped = crest_jump_labelled(null(), 0, null(), 0, 0, 0, 0, &mut one, &mut two);
+            assert_eq!(jumped, refused(6));
+            for row_from in [crest_row_from_labelled, crest_row_from_waveform] {
+                assert_eq!(row_from(null(), 0, 0, &mut one, &mut two), refused(6));
+            }
+            assert_eq!(crest_vax_f(null(), 0, &mut start), refused(1));
+            assert_eq!(crest_vax_d(null(), 0, &mut start), refused(1));
+            let opening = crest_opening(null(), 0, &mut one, &mut start, &mut stop);
+            assert_eq!(opening, refused(1));
+            let kept = crest_keep_index(null(), 0, null_mut(), 0, &mut one);
+            assert_eq!(kept, refused(8));
+            let loaded = crest_load_kept(null(), 0, null_mut(), 0, &mut one);
+            assert_eq!(loaded, refused(13));
+            assert_eq!((one, two, start, stop), (7, 7, 7.0, 7.0));
+            assert_eq!((agency, class, description), ([7; 4], 7, [7; 4]));
+
+            for check in [crest_check_labelled, crest_check_waveform] {
+                one = 7;
+                assert_eq!((check(null(), 0, &mut one), one), (ANSWERED, 0));
+            }
+            one = 7;
+            let built = crest_build_index(null(), 0, null_mut(), 0, &mut one, &mut two);
+            assert_eq!((built, one, two), (ANSWERED, 0, 0));
+            assert_eq!(crest_check_index(null(), 0, null(), 0), ANSWERED);
+        }
+    }
+}

@@ -1,0 +1,296 @@
+//! Files of both kinds: checked, read from the first byte, jumped into, gone through row by row.
+
+use crate::ffi::{self, Outcome};
+use crate::refusal::{other_version, Refused};
+use std::iter::FusedIterator;
+
+/// What a file is. The caller says so: no call can tell the kinds apart.
+#[derive(Clone, Copy, Debug, PartialEq, Eq, Hash)]
+pub enum Kind {
+    /// Objects with 20-byte CCSDS labels. Its rows are the values of the objects of all classes
+    /// but `Z`, which holds further objects.
+    Labelled,
+    /// Rows of 2,080 bytes: a prefix of 32, then 2,048 samples, which are the row.
+    Waveform,
+}
+
+/// The part of a row that is wanted: `count` bytes from its byte `first` on.
+#[derive(Clone, Copy, Debug, PartialEq, Eq, Hash)]
+pub struct Window {
+    /// How many bytes of the row stand before the window.
+    pub first: usize,
+    /// How many bytes the window has.
+    pub count: usize,
+}
+
+impl Window {
+    /// The window of `count` bytes from byte `first` on. It fits a row of as many bytes as both
+    /// together, or more.
+    ///
+    /// ```
+    /// use crestulbino::Window;
+    ///
+    /// assert_eq!(Window::new(2, 3), Window { first: 2, count: 3 });
+    /// ```
+    pub const fn new(first: usize, count: usize) -> Window {
+        Window { first, count }
+    }
+}
+
+/// A row, or the part of it that a window shows.
+#[derive(Clone, Copy, Debug, PartialEq, Eq, Hash)]
+pub struct Row<'a> {
+    /// The place of its first byte in the file, for an empty one too.
+    pub place: usize,
+    /// Its bytes, borrowed from the file.
+    pub bytes: &'a [u8],
+}
+
+impl Row<'_> {
+    /// The place behind the last byte: where [`row_from`] goes on after a whole row.
+    ///
+    /// ```
+    /// assert_eq!(crestulbino::Row { place: 40, bytes: b"abc" }.end(), 43);
+    /// ```
+    pub const fn end(&self) -> usize {
+        self.place + self.bytes.len()
+    }
+}
+
+/// Checks a whole file and answers how many rows it has.
+///
+/// Refuses: `TooBig`. Then for a labelled file, at its first faulty label: `Deep`, `Short`,
+/// `BadLabel`, `BadLength`, `Overrun`; for a waveform file: `Ragged`.
+///
+/// ```
+/// use crestulbino::{check, Kind, Refusal};
+///
+/// assert_eq!(check(Kind::Labelled, b"NJPL1I00DEMO00000003abc")?, 1);
+/// assert_eq!(check(Kind::Waveform, &[0; 2 * 2_080])?, 2);
+/// let refused = check(Kind::Waveform, &[0; 2_079]).unwrap_err();
+/// assert_eq!(refused.refusal, Refusal::Ragged);
+/// # Ok::<(), crestulbino::Refused>(())
+/// ```
+#[inline]
+pub fn check(kind: Kind, file: &[u8]) -> Result<usize, Refused> {
+    let mut rows = 0;
+    match kind {
+        Kind::Labelled => ffi::check_labelled(file, &mut rows),
+        Kind::Waveform => ffi::check_waveform(file, &mut rows),
+    }
+    .result()?;
+    Ok(rows as usize)
+}
+
+/// Reads a window of a row by going through the file from its first byte. Rows are numbered
+/// from 0.
+///
+/// Refuses: as [`check`], wherever in the file the fault stands; `NoRow`; `NoPart`.
+///
+/// ```
+/// use crestulbino::{read_row, Kind, Window};
+///
+/// let file = b"NJPL1I00DEMO00000003abcNJPL1I00DEMO00000002de";
+/// let row = read_row(Kind::Labelled, file, 1, Window::new(0, 2))?;
+/// assert_eq!((row.place, row.bytes), (43, &b"de"[..]));
+/// # Ok::<(), crestulbino::Refused>(())
+/// ```
+#[inline]
+pub fn read_row(kind: Kind, file: &[u8], row: usize, window: Window) -> Result<Row<'_>, Refused> {
+    let (row, first, count) = (row as u64, window.first as u64, window.count as u64);
+    shown(file, |place, shown| match kind {
+        Kind::Labelled => ffi::read_row_labelled(file, row, first, count, place, shown),
+        Kind::Waveform => ffi::read_row_waveform(file, row, first, count, place, shown),
+    })
+}
+
+/// Reads a window of a row of a labelled file by its index: `list` is what
+/// [`build_index`](crate::build_index) wrote, or what [`check_index`](crate::check_index)
+/// accepts. With such a list the answer is that of [`read_row`]; with any other it is of no use.
+///
+/// Refuses: `TooBig`; `NoRow` for a missing entry; `BadIndex` for an entry beyond the file's
+/// length; what the walk from the entry meets, which is `Short`, `BadLabel`, `BadLength` or
+/// `Overrun` at a label, or `NoRow` at the file's end; `NoPart`.
+///
+/// ```
+/// use crestulbino::{jump_labelled, Window};
+///
+/// let file = b"NJPL1I00DEMO00000003abcNJPL1I00DEMO00000002de";
+/// let row = jump_labelled(file, &[0], 1, Window::new(1, 1))?;
+/// assert_eq!((row.place, row.bytes), (44, &b"e"[..]));
+/// # Ok::<(), crestulbino::Refused>(())
+/// ```
+#[inline]
+pub fn jump_labelled<'a>(
+    file: &'a [u8],
+    list: &[u32],
+    row: usize,
+    window: Window,
+) -> Result<Row<'a>, Refused> {
+    let (row, first, count) = (row as u64, window.first as u64, window.count as u64);
+    shown(file, |place, shown| {
+        ffi::jump_labelled(file, list, row, first, count, place, shown)
+    })
+}
+
+/// Reads a window of a row of a waveform file at its computed place. The answer is that of
+/// [`read_row`].
+///
+/// Refuses: `TooBig`, `Ragged`, `NoRow`, `NoPart`.
+///
+/// ```
+/// use crestulbino::{jump_waveform, Window};
+///
+/// let file = [128; 32 * 2_080];
+/// let row = jump_waveform(&file, 31, Window::new(1_024, 4))?;
+/// assert_eq!((row.place, row.bytes), (65_536, &[128; 4][..]));
+/// # Ok::<(), crestulbino::Refused>(())
+/// ```
+#[inline]
+pub fn jump_waveform(file: &[u8], row: usize, window: Window) -> Result<Row<'_>, Refused> {
+    let (row, first, count) = (row as u64, window.first as u64, window.count as u64);
+    shown(file, |place, shown| {
+        ffi::jump_waveform(file, row, first, count, place, shown)
+    })
+}
+
+/// Gives a whole row from a place on: in a labelled file the first row whose label is met from
+/// there, in a waveform file the row that begins there with its prefix. Begin at 0 and go on at
+/// [`Row::end`] of each row; [`rows`] does so.
+///
+/// Refuses, labelled: `TooBig`; `NoRow` for a place beyond the file's length; what the walk from
+/// the place meets, which is `Short`, `BadLabel`, `BadLength` or `Overrun` at a label, or `NoRow`
+/// at the file's end. Waveform: `TooBig`; `Ragged`; `NoRow` for a place that is no multiple of
+/// 2,080, or at or beyond the file's end.
+///
+/// ```
+/// use crestulbino::{row_from, Kind, Refusal};
+///
+/// let file = b"CCSD1Z00000100000023NJPL1I00DEMO00000003abc";
+/// let row = row_from(Kind::Labelled, file, 0)?;
+/// assert_eq!((row.place, row.bytes), (40, &b"abc"[..]));
+/// let refused = row_from(Kind::Labelled, file, row.end()).unwrap_err();
+/// assert_eq!(refused.refusal, Refusal::NoRow);
+/// # Ok::<(), crestulbino::Refused>(())
+/// ```
+#[inline]
+pub fn row_from(kind: Kind, file: &[u8], from: usize) -> Result<Row<'_>, Refused> {
+    let from = from as u64;
+    shown(file, |place, shown| match kind {
+        Kind::Labelled => ffi::row_from_labelled(file, from, place, shown),
+        Kind::Waveform => ffi::row_from_waveform(file, from, place, shown),
+    })
+}
+
+/// Checks a file, then gives its rows one after the other.
+///
+/// Refuses: as [`check`].
+///
+/// ```
+/// use crestulbino::{rows, Kind};
+///
+/// let file = b"CCSD1Z00000100000043NJPL1I00DEMO00000003abcNJPL1I00DEMO00000000";
+/// let mut rows = rows(Kind::Labelled, file)?;
+/// assert_eq!(rows.len(), 2);
+/// assert_eq!(rows.next().map(|row| (row.place, row.bytes)), Some((40, &b"abc"[..])));
+/// assert_eq!(rows.next().map(|row| (row.place, row.bytes)), Some((63, &b""[..])));
+/// assert_eq!(rows.next(), None);
+/// # Ok::<(), crestulbino::Refused>(())
+/// ```
+#[inline]
+pub fn rows(kind: Kind, file: &[u8]) -> Result<Rows<'_>, Refused> {
+    Ok(Rows {
+        kind,
+        file,
+        from: 0,
+        left: check(kind, file)?,
+    })
+}
+
+/// The rows of a file that was checked. [`rows`] makes it.
+#[derive(Clone, Debug)]
+pub struct Rows<'a> {
+    kind: Kind,
+    file: &'a [u8],
+    from: usize,
+    left: usize,
+}
+
+impl<'a> Iterator for Rows<'a> {
+    type Item = Row<'a>;
+
+    #[inline]
+    fn next(&mut self) -> Option<Row<'a>> {
+        self.left = self.left.checked_sub(1)?;
+        let row = row_from(self.kind, self.file, self.from);
+        let row = row.unwrap_or_else(|_| other_version());
+        self.from = row.end();
+        Some(row)
+    }
+
+    fn size_hint(&self) -> (usize, Option<usize>) {
+        (self.left, Some(self.left))
+    }
+}
+
+impl ExactSizeIterator for Rows<'_> {}
+
+impl FusedIterator for Rows<'_> {}
+
+/// Makes a call that answers a place and a count, and borrows that part of the file.
+#[inline]
+fn shown(
+    file: &[u8],
+    call: impl FnOnce(&mut u64, &mut u64) -> Outcome,
+) -> Result<Row<'_>, Refused> {
+    let (mut place, mut shown) = (0, 0);
+    call(&mut place, &mut shown).result()?;
+    let (place, shown) = (place as usize, shown as usize);
+    let bytes = file.get(place..).and_then(|rest| rest.get(..shown));
+    let bytes = bytes.unwrap_or_else(|| other_version());
+    Ok(Row { place, bytes })
+}
+
+#[cfg(test)]
+mod tests {
+    use super::*;
+
+    const DEMO: &[u8] = b"CCSD1Z00000100000043NJPL1I00DEMO00000003abcNJPL1I00DEMO00000000";
+
+    #[test]
+    fn rows_are_borrowed_from_the_file() {
+        let row = row_from(Kind::Labelled, DEMO, 0).unwrap();
+        assert_eq!(row.bytes.as_ptr(), DEMO[40..].as_ptr());
+    }
+
+    #[test]
+    fn going_through_a_file_gives_what_reading_gives() {
+        let waveform: Vec<u8> = (0..3 * 2_080).map(|place| (place % 251) as u8).collect();
+        for (kind, file) in [(Kind::Labelled, DEMO), (Kind::Waveform, &waveform)] {
+            let all = rows(kind, file).unwrap();
+            assert_eq!(all.size_hint(), (all.len(), Some(all.len())));
+            assert_eq!(all.clone().count(), check(kind, file).unwrap());
+            for (number, row) in all.enumerate() {
+                let window = Window::new(0, row.bytes.len());
+                assert_eq!(read_row(kind, file, number, window), Ok(row));
+            }
+        }
+    }
+
+    #[test]
+    fn a_file_is_checked_before_its_first_row() {
+        let late = [DEMO, b"x"].concat();
+        let refused = rows(Kind::Labelled, &late).unwrap_err();
+        assert_eq!(refused.place, 63);
+        assert_eq!(check(Kind::Labelled, &late), Err(refused));
+        assert!(row_from(Kind::Labelled, &late, 0).is_ok());
+    }
+
+    #[test]
+    fn empty_files_have_no_rows() {
+        for kind in [Kind::Labelled, Kind::Waveform] {
+            let mut none = rows(kind, &[]).unwrap();
+            assert_eq!((none.len(), none.next(), none.next()), (0, None, None));
+        }
+    }
+}

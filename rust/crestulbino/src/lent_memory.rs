@@ -1,0 +1,503 @@
+//! Tests of the boundary to the byte: each call with each refusal that it can give, its outputs
+//! lent with other memory on both sides. A refused call changes nothing; a call that answers
+//! changes the front of its outputs.
+
+use crate::ffi::{self, Outcome};
+use std::fmt::Debug;
+
+const DEMO: &[u8] = b"CCSD1Z00000100000043NJPL1I00DEMO00000003abcNJPL1I00DEMO00000000";
+
+const ANSWERED: Outcome = refused(0, 0);
+
+const fn refused(refusal: u64, place: u64) -> Outcome {
+    Outcome { refusal, place }
+}
+
+/// Something that memory can be filled with before it is lent.
+trait Filling: Copy + Debug + PartialEq {
+    fn of(number: u64) -> Self;
+}
+
+impl Filling for u8 {
+    fn of(number: u64) -> u8 {
+        number as u8
+    }
+}
+
+impl Filling for u32 {
+    fn of(number: u64) -> u32 {
+        number as u32
+    }
+}
+
+impl Filling for u64 {
+    fn of(number: u64) -> u64 {
+        number
+    }
+}
+
+impl Filling for f64 {
+    fn of(number: u64) -> f64 {
+        (number as i64) as f64
+    }
+}
+
+/// Memory with an output in its middle.
+struct Lent<T> {
+    memory: Vec<T>,
+    size: usize,
+    salt: u64,
+}
+
+/// How many elements stand on each side of an output.
+const MARGIN: usize = 48;
+
+/// No element is filled alike under both, so that writing what was there shows in one of them.
+const SALTS: [u64; 2] = [0x1234_5678_9abc_def1, !0x1234_5678_9abc_def1];
+
+impl<T: Filling> Lent<T> {
+    fn new(size: usize, salt: u64) -> Lent<T> {
+        let memory = (0..size + 2 * MARGIN).map(|at| filling(at, salt)).collect();
+        Lent { memory, size, salt }
+    }
+
+    fn output(&mut self) -> &mut [T] {
+        &mut self.memory[MARGIN..MARGIN + self.size]
+    }
+
+    fn number(&mut self) -> &mut T {
+        &mut self.memory[MARGIN]
+    }
+
+    fn four(&mut self) -> &mut [T; 4] {
+        self.output().try_into().unwrap()
+    }
+
+    /// Only the front of the output was changed, and to this.
+    #[track_caller]
+    fn assert_front(&self, front: &[T]) {
+        for (at, &element) in self.memory.iter().enumerate() {
+            let written = at.checked_sub(MARGIN).and_then(|at| front.get(at));
+            let expected = written.copied().unwrap_or(filling(at, self.salt));
+            assert_eq!(element, expected, "element {at}, the output at {MARGIN}");
+        }
+    }
+}
+
+fn filling<T: Filling>(at: usize, salt: u64) -> T {
+    T::of(salt.rotate_left(8 * (at as u32 % 8)))
+}
+
+/// A call with one number for an answer.
+fn answers_number<T: Filling>(
+    name: &str,
+    expected: Result<T, Outcome>,
+    call: impl Fn(&mut T) -> Outcome,
+) {
+    for salt in SALTS {
+        let mut number = Lent::new(1, salt);
+        let outcome = call(number.number());
+        assert_eq!(outcome, expected.err().unwrap_or(ANSWERED), "{name}");
+        number.assert_front(expected.ok().as_slice());
+    }
+}
+
+/// A call with two numbers for an answer.
+fn answers_two(
+    name: &str,
+    expected: Result<(u64, u64), Outcome>,
+    call: impl Fn(&mut u64, &mut u64) -> Outcome,
+) {
+    answers_with(
+        name,
+        0,
+        expected.map(|two| (Vec::new(), two)),
+        |_: &mut [u8], one, two| call(one, two),
+    );
+}
+
+/// A call with memory lent to write to, and two numbers for an answer.
+fn answers_with<T: Filling>(
+    name: &str,
+    size: usize,
+    expected: Result<(Vec<T>, (u64, u64)), Outcome>,
+    call: impl Fn(&mut [T], &mut u64, &mut u64) -> Outcome,
+) {
+    for salt in SALTS {
+        let mut memory = Lent::new(size, salt);
+        let (mut first, mut second) = (Lent::new(1, salt), Lent::new(1, salt));
+        let outcome = call(memory.output(), first.number(), second.number());
+        assert_eq!(
+            outcome,
+            expected.as_ref().err().copied().unwrap_or(ANSWERED),
+            "{name}"
+        );
+        let answer = expected.as_ref().ok();
+        memory.assert_front(answer.map_or(&[], |(front, _)| front));
+        first.assert_front(answer.map(|(_, two)| two.0).as_slice());
+        second.assert_front(answer.map(|(_, two)| two.1).as_slice());
+    }
+}
+
+/// A call with memory lent to write to, and how much it wrote for an answer.
+fn fills<T: Filling>(
+    name: &str,
+    size: usize,
+    expected: Result<Vec<T>, Outcome>,
+    call: impl Fn(&mut [T], &mut u64) -> Outcome,
+) {
+    for salt in SALTS {
+        let (mut memory, mut count) = (Lent::new(size, salt), Lent::new(1, salt));
+        let outcome = call(memory.output(), count.number());
+        assert_eq!(
+            outcome,
+            expected.as_ref().err().copied().unwrap_or(ANSWERED),
+            "{name}"
+        );
+        let answer = expected.as_ref().ok();
+        memory.assert_front(answer.map_or(&[], |front| front));
+        count.assert_front(answer.map(|front| front.len() as u64).as_slice());
+    }
+}
+
+/// One byte more than a file may have. Nothing is written to it, so it takes no memory.
+fn too_big() -> Vec<u8> {
+    vec![0; 1 << 32]
+}
+
+fn too_deep() -> Vec<u8> {
+    let groups = (0..8)
+        .rev()
+        .map(|left| format!("CCSD1Z000001{:08}", left * 20 + 1));
+    groups
+        .chain(["x".to_string()])
+        .collect::<String>()
+        .into_bytes()
+}
+
+/// A file for each refusal of the check of labelled files.
+fn refused_files() -> Vec<(Vec<u8>, Outcome)> {
+    let mut files = walk_faults();
+    files.push((too_big(), refused(14, 0)));
+    files.push((too_deep(), refused(5, 160)));
+    files
+}
+
+/// A file for each refusal that a walk from its first byte meets.
+fn walk_faults() -> Vec<(Vec<u8>, Outcome)> {
+    vec![
+        (b"CCSD1Z00000100000001x".to_vec(), refused(1, 20)),
+        (
+            b"CCSD1Z00000100000020NJPL2I00DEMO00000000".to_vec(),
+            refused(2, 20),
+        ),
+        (
+            b"CCSD1Z00000100000020NJPL1I00DEMO0000000x".to_vec(),
+            refused(3, 20),
+        ),
+        (
+            b"CCSD1Z00000100000020NJPL1I00DEMO00000001".to_vec(),
+            refused(4, 20),
+        ),
+    ]
+}
+
+#[test]
+fn read_label() {
+    for (bytes, expected) in [
+        (&b"NJPL1I00DEMO00000003abc"[..], ANSWERED),
+        (b"NJPL1I00DEMO0000000", refused(1, 0)),
+        (b"NJPL1i00DEMO00000003", refused(2, 0)),
+        (b"NJPL1I00DEMO0000000x", refused(3, 0)),
+    ] {
+        for salt in SALTS {
+            let (mut agency, mut class) = (Lent::new(4, salt), Lent::new(1, salt));
+            let (mut description, mut length) = (Lent::new(4, salt), Lent::new(1, salt));
+            let outcome = ffi::read_label(
+                bytes,
+                agency.four(),
+                class.number(),
+                description.four(),
+                length.number(),
+            );
+            assert_eq!(outcome, expected);
+            let answered = usize::from(outcome == ANSWERED);
+            agency.assert_front(&b"NJPL"[..4 * answered]);
+            class.assert_front(&b"I"[..answered]);
+            description.assert_front(&b"DEMO"[..4 * answered]);
+            length.assert_front(&[3][..answered]);
+        }
+    }
+}
+
+#[test]
+fn write_label() {
+    let label = || Ok(b"NJPL1I00DEMO00000003".to_vec());
+    for (head, length, size, expected) in [
+        (&b"NJPL1I00DEMO"[..], 3, 20, label()),
+        (b"NJPL1I00DEMO", 3, 23, label()),
+        (b"NJPL1I00DEM", 3, 23, Err(refused(2, 0))),
+        (b"NJPL1I00DEMo", 3, 23, Err(refused(2, 0))),
+        (b"NJPL1I00DEMO", 100_000_000, 23, Err(refused(15, 0))),
+        (b"NJPL1I00DEMO", u64::MAX, 23, Err(refused(15, 0))),
+        (b"NJPL1I00DEMO", 3, 19, Err(refused(8, 0))),
+        (b"NJPL1I00DEMO", 3, 0, Err(refused(8, 0))),
+    ] {
+        fills("write_label", size, expected, |out, written| {
+            ffi::write_label(head, length, out, written)
+        });
+    }
+}
+
+#[test]
+fn check() {
+    answers_number("labelled", Ok(2), |rows| ffi::check_labelled(DEMO, rows));
+    answers_number("labelled", Ok(0), |rows| ffi::check_labelled(&[], rows));
+    for (file, outcome) in refused_files() {
+        answers_number("labelled", Err(outcome), |rows| {
+            ffi::check_labelled(&file, rows)
+        });
+    }
+    for (file, expected) in [
+        (vec![0; 2 * 2_080], Ok(2)),
+        (vec![0; 2_079], Err(refused(12, 0))),
+        (too_big(), Err(refused(14, 0))),
+    ] {
+        answers_number("waveform", expected, |rows| {
+            ffi::check_waveform(&file, rows)
+        });
+    }
+}
+
+#[test]
+fn read_row_labelled() {
+    for (row, first, count, expected) in [
+        (0, 1, 2, Ok((41, 2))),
+        (1, 0, 0, Ok((63, 0))),
+        (2, 0, 0, Err(refused(6, 0))),
+        (u64::MAX, u64::MAX, 1, Err(refused(6, 0))),
+        (0, 1, 3, Err(refused(7, 0))),
+        (1, u64::MAX, 1, Err(refused(7, 0))),
+    ] {
+        answers_two("read_row_labelled", expected, |place, shown| {
+            ffi::read_row_labelled(DEMO, row, first, count, place, shown)
+        });
+    }
+    for (file, outcome) in refused_files() {
+        answers_two("read_row_labelled", Err(outcome), |place, shown| {
+            ffi::read_row_labelled(&file, 0, 0, 0, place, shown)
+        });
+    }
+}
+
+#[test]
+fn waveform_rows() {
+    let file = vec![0; 2 * 2_080];
+    let (ragged, too_big) = (vec![0; 2_081], too_big());
+    for (file, row, first, count, expected) in [
+        (&file, 1, 2_040, 8, Ok((4_152, 8))),
+        (&file, 1, 2_048, 0, Ok((4_160, 0))),
+        (&file, 2, 0, 0, Err(refused(6, 0))),
+        (&file, 1 << 59, 0, 0, Err(refused(6, 0))),
+        (&file, 1, 2_041, 8, Err(refused(7, 0))),
+        (&ragged, 0, 0, 0, Err(refused(12, 0))),
+        (&too_big, 0, 0, 0, Err(refused(14, 0))),
+    ] {
+        answers_two("read_row_waveform", expected, |place, shown| {
+            ffi::read_row_waveform(file, row, first, count, place, shown)
+        });
+        answers_two("jump_waveform", expected, |place, shown| {
+            ffi::jump_waveform(file, row, first, count, place, shown)
+        });
+    }
+    for (file, from, expected) in [
+        (&file, 2_080, Ok((2_112, 2_048))),
+        (&file, 2_081, Err(refused(6, 0))),
+        (&file, 4_160, Err(refused(6, 0))),
+        (&ragged, 0, Err(refused(12, 0))),
+        (&too_big, 0, Err(refused(14, 0))),
+    ] {
+        answers_two("row_from_waveform", expected, |place, shown| {
+            ffi::row_from_waveform(file, from, place, shown)
+        });
+    }
+}
+
+#[test]
+fn jump_labelled() {
+    for (list, row, first, count, expected) in [
+        (&[20][..], 0, 1, 2, Ok((41, 2))),
+        (&[20], 1, 0, 0, Ok((63, 0))),
+        (&[], 0, 0, 0, Err(refused(6, 0))),
+        (&[20], 16, 0, 0, Err(refused(6, 0))),
+        (&[20], 2, 0, 0, Err(refused(6, 0))),
+        (&[64], 0, 0, 0, Err(refused(11, 0))),
+        (&[20], 0, 1, 3, Err(refused(7, 0))),
+    ] {
+        answers_two("jump_labelled", expected, |place, shown| {
+            ffi::jump_labelled(DEMO, list, row, first, count, place, shown)
+        });
+    }
+    for (file, outcome) in walk_faults()
+        .into_iter()
+        .chain([(too_big(), refused(14, 0))])
+    {
+        answers_two("jump_labelled", Err(outcome), |place, shown| {
+            ffi::jump_labelled(&file, &[0], 0, 0, 0, place, shown)
+        });
+    }
+}
+
+#[test]
+fn row_from_labelled() {
+    for (from, expected) in [
+        (0, Ok((40, 3))),
+        (43, Ok((63, 0))),
+        (63, Err(refused(6, 0))),
+        (64, Err(refused(6, 0))),
+        (u64::MAX, Err(refused(6, 0))),
+    ] {
+        answers_two("row_from_labelled", expected, |place, shown| {
+            ffi::row_from_labelled(DEMO, from, place, shown)
+        });
+    }
+    for (file, outcome) in walk_faults()
+        .into_iter()
+        .chain([(too_big(), refused(14, 0))])
+    {
+        answers_two("row_from_labelled", Err(outcome), |place, shown| {
+            ffi::row_from_labelled(&file, 0, place, shown)
+        });
+    }
+}
+
+#[test]
+fn build_index() {
+    let file = b"NJPL1I00DEMO00000001x".repeat(33);
+    for (size, expected) in [
+        (3, Ok((vec![0, 336, 672], (3, 33)))),
+        (5, Ok((vec![0, 336, 672], (3, 33)))),
+        (2, Err(refused(8, 0))),
+        (0, Err(refused(8, 0))),
+    ] {
+        answers_with("build_index", size, expected, |list, entries, rows| {
+            ffi::build_index(&file, list, entries, rows)
+        });
+    }
+    for (file, outcome) in refused_files() {
+        answers_with("build_index", 2, Err(outcome), |list, entries, rows| {
+            ffi::build_index(&file, list, entries, rows)
+        });
+    }
+}
+
+#[test]
+fn check_index() {
+    assert_eq!(ffi::check_index(DEMO, &[20]), ANSWERED);
+    for list in [&[][..], &[21], &[20, 20]] {
+        assert_eq!(ffi::check_index(DEMO, list), refused(11, 0));
+    }
+    for (file, outcome) in refused_files() {
+        assert_eq!(ffi::check_index(&file, &[20]), outcome);
+    }
+}
+
+#[test]
+fn keep_index() {
+    let kept = || Ok(vec![6, 0, 0, 0, 1, 0, 20, 0, 0, 0]);
+    for (size, expected) in [
+        (10, kept()),
+        (13, kept()),
+        (9, Err(refused(8, 0))),
+        (0, Err(refused(8, 0))),
+    ] {
+        fills("keep_index", size, expected, |out, written| {
+            ffi::keep_index(&[20], out, written)
+        });
+    }
+    let too_many = vec![0; 1 << 30];
+    fills("keep_index", 9, Err(refused(14, 0)), |out, written| {
+        ffi::keep_index(&too_many, out, written)
+    });
+}
+
+#[test]
+fn load_kept() {
+    let kept: &[u8] = &[10, 0, 0, 0, 1, 0, 20, 0, 0, 0, 1, 2, 3, 4];
+    for (bytes, size, expected) in [
+        (kept, 2, Ok(vec![20, 0x0403_0201])),
+        (kept, 4, Ok(vec![20, 0x0403_0201])),
+        (kept, 1, Err(refused(8, 0))),
+        (&kept[..13], 4, Err(refused(13, 0))),
+        (&kept[..5], 4, Err(refused(13, 0))),
+        (&[2, 0, 0, 0, 2, 0], 4, Err(refused(13, 0))),
+    ] {
+        fills("load_kept", size, expected, |list, entries| {
+            ffi::load_kept(bytes, list, entries)
+        });
+    }
+}
+
+#[test]
+fn vax_numbers() {
+    let one = [0x80, 0x40, 0, 0, 0, 0, 0, 0];
+    let reserved = [0, 0x80, 0, 0, 0, 0, 0, 0];
+    for (bytes, expected) in [
+        (&one[..4], Ok(1.0)),
+        (&one[..3], Err(refused(1, 0))),
+        (&reserved[..4], Err(refused(9, 0))),
+    ] {
+        answers_number("vax_f", expected, |number| ffi::vax_f(bytes, number));
+    }
+    for (bytes, expected) in [
+        (&one[..], Ok(1.0)),
+        (&one[..7], Err(refused(1, 0))),
+        (&reserved, Err(refused(9, 0))),
+    ] {
+        answers_number("vax_d", expected, |number| ffi::vax_d(bytes, number));
+    }
+}
+
+#[test]
+fn opening() {
+    let good = [
+        1, 0, 0, 0, 0x80, 0x40, 0, 0, 0, 0, 0, 0, 0x80, 0xc0, 0, 0, 0, 0, 0, 0,
+    ];
+    let reserved_at = |place: usize| {
+        let mut bytes = good;
+        bytes[place..place + 2].copy_from_slice(&[0, 0x80]);
+        bytes
+    };
+    for (bytes, expected) in [
+        (&good[..], ANSWERED),
+        (&good[..19], refused(1, 0)),
+        (&reserved_at(4), refused(9, 4)),
+        (&reserved_at(12), refused(9, 12)),
+    ] {
+        for salt in SALTS {
+            let mut orbit = Lent::new(1, salt);
+            let (mut start, mut stop) = (Lent::new(1, salt), Lent::new(1, salt));
+            let outcome = ffi::opening(bytes, orbit.number(), start.number(), stop.number());
+            assert_eq!(outcome, expected);
+            let answered = usize::from(outcome == ANSWERED);
+            orbit.assert_front(&[1][..answered]);
+            start.assert_front(&[1.0][..answered]);
+            stop.assert_front(&[-1.0][..answered]);
+        }
+    }
+}
+
+#[test]
+fn verdict() {
+    for (element, value, expected) in [
+        (141, -2_001, Ok(0)),
+        (141, 0, Ok(1)),
+        (141, 2_001, Ok(2)),
+        (4, 0, Err(refused(10, 0))),
+        (u64::MAX, 0, Err(refused(10, 0))),
+    ] {
+        answers_number("verdict", expected, |verdict| {
+            ffi::verdict(element, value, verdict)
+        });
+    }
+}

@@ -1,0 +1,60 @@
+//! Labelled radar files (Magellan F-BIDR, TOPEX) and waveform files (Cassini RPWS): rows, their
+//! places and their bytes.
+//!
+//! The work is done by a library that is proved in Rattle; this crate makes its C boundary safe to
+//! call. A file is a slice of bytes of a [`Kind`] that the caller names. Every call takes any bytes
+//! and any numbers, and answers or gives one [`Refused`]: a number and a place. Nothing is copied:
+//! a [`Row`] borrows its bytes from the file. A refused call has changed nothing that was lent to
+//! it, and a call that writes fills the front of what it is lent and answers how much.
+//!
+//! ```
+//! use crestulbino::{build_index, jump_labelled, rows, Kind, Window};
+//!
+//! let file = b"CCSD1Z00000100000043NJPL1I00DEMO00000003abcNJPL1I00DEMO00000000";
+//! for (number, row) in rows(Kind::Labelled, file)?.enumerate() {
+//!     println!("row {number}: {} bytes at {}", row.bytes.len(), row.place);
+//! }
+//!
+//! let mut list = [0; 1];
+//! let built = build_index(file, &mut list)?;
+//! let row = jump_labelled(file, &list[..built.entries], 0, Window::new(1, 2))?;
+//! assert_eq!((row.place, row.bytes), (41, &b"bc"[..]));
+//! # Ok::<(), crestulbino::Refused>(())
+//! ```
+//!
+//! Places, row numbers and counts are `usize`, which has 64 bits wherever this crate can be built.
+//! A place is the number of bytes before it in what was lent.
+//!
+//! # The archive
+//!
+//! `rt staticlib capi` proves the library and writes `target/staticlib/libcapi.a`, where the build
+//! of this crate looks for it; an absolute path in `CRESTULBINO_LIB_DIR` names another folder. A
+//! call panics only where that archive does not behave as its header says, which means that it is
+//! of another version.
+
+#![deny(unsafe_code)]
+#![warn(missing_docs)]
+
+#[cfg(not(target_pointer_width = "64"))]
+compile_error!("the proved library counts in 64 bits");
+
+#[allow(unsafe_code)]
+mod ffi;
+
+mod file;
+mod index;
+mod label;
+#[cfg(test)]
+mod lent_memory;
+mod numbers;
+mod refusal;
+
+pub use file::{
+    check, jump_labelled, jump_waveform, read_row, row_from, rows, Kind, Row, Rows, Window,
+};
+pub use index::{
+    build_index, check_index, keep_index, load_kept, Built, KEPT_FRONT_BYTES, ROWS_PER_ENTRY,
+};
+pub use label::{read_label, write_label, Label, LABEL_BYTES};
+pub use numbers::{opening, sample, vax_d, vax_f, verdict, Opening, Verdict};
+pub use refusal::{Refusal, Refused};

@@ -1,0 +1,265 @@
+//! Labelled files: the pass over their labels, the check, reading a row without
+//! an index, and going on from a place.
+
+use crate::check_size;
+use crate::label::{Label, LABEL_BYTES};
+use crate::refusal::{Reason, Refusal};
+use crate::window::{Part, Row, Window};
+
+/// Labels may stand this deep; the outermost ones are at depth 1.
+pub const DEEPEST: usize = 8;
+
+/// A leaf as the pass meets it.
+#[derive(Clone, Copy, Debug, PartialEq, Eq)]
+pub struct Leaf {
+    /// Where its label begins.
+    pub place: u64,
+    pub label: Label,
+    /// Where its value stands.
+    pub row: Row,
+}
+
+/// Passes through a file in order and gives its leaves, up to the first fault.
+///
+/// Open groups are kept as a pile of places at which they end. The file itself
+/// lies at the bottom of the pile, so the size of the pile is the depth at
+/// which the next label would stand.
+pub struct Leaves<'a> {
+    file: &'a [u8],
+    place: u64,
+    ends: Vec<u64>,
+}
+
+/// Begins a pass at the first byte of a file.
+pub fn leaves(file: &[u8]) -> Result<Leaves<'_>, Refusal> {
+    let length = file.len() as u64;
+    check_size(length)?;
+    Ok(Leaves {
+        file,
+        place: 0,
+        ends: vec![length],
+    })
+}
+
+impl Leaves<'_> {
+    /// Goes on to the next leaf; gives nothing once the whole file is passed.
+    fn advance(&mut self) -> Result<Option<Leaf>, Refusal> {
+        loop {
+            while self.ends.last() == Some(&self.place) {
+                self.ends.pop();
+            }
+            let Some(&end) = self.ends.last() else {
+                return Ok(None);
+            };
+            let place = self.place;
+            if self.ends.len() > DEEPEST {
+                return Err(Reason::Deep.at(place));
+            }
+            let label = Label::read_at(self.file, place, end)?;
+            let start = place + LABEL_BYTES;
+            if label.length > end - start {
+                return Err(Reason::Overrun.at(place));
+            }
+            let value_end = start + label.length;
+            if label.is_group() {
+                self.ends.push(value_end);
+                self.place = start;
+                continue;
+            }
+            self.place = value_end;
+            let row = Row {
+                start,
+                length: label.length,
+            };
+            return Ok(Some(Leaf { place, label, row }));
+        }
+    }
+}
+
+impl Iterator for Leaves<'_> {
+    type Item = Result<Leaf, Refusal>;
+
+    fn next(&mut self) -> Option<Self::Item> {
+        let step = self.advance();
+        if step.is_err() {
+            // Nothing follows a fault.
+            self.ends.clear();
+        }
+        step.transpose()
+    }
+}
+
+/// Checks a whole file and answers how many rows it has.
+pub fn check(file: &[u8]) -> Result<u64, Refusal> {
+    leaves(file)?.try_fold(0, |rows, leaf| leaf.map(|_| rows + 1))
+}
+
+/// Reads a window of row `number` by passing through the file from its first
+/// byte. The rest of the file is passed too, as a fault anywhere refuses it.
+pub fn read_row(file: &[u8], number: u64, window: Window) -> Result<Part<'_>, Refusal> {
+    let mut wanted = None;
+    for (count, leaf) in (0u64..).zip(leaves(file)?) {
+        let leaf = leaf?;
+        if count == number {
+            wanted = Some(leaf.row);
+        }
+    }
+    let row = wanted.ok_or(Reason::NoRow.at_start())?;
+    window.show(file, row)
+}
+
+/// Gives the first row from a place on, whole. A place beyond the file has no
+/// row; what else stands in the way is what the walk meets.
+pub fn row_from(file: &[u8], from: u64) -> Result<Part<'_>, Refusal> {
+    let end = file.len() as u64;
+    check_size(end)?;
+    if from > end {
+        return Err(Reason::NoRow.at_start());
+    }
+    let row = walk(file, from, 0)?;
+    Window::new(0, row.length).show(file, row)
+}
+
+/// Walks on from a place inside the file, or from its end, past so many leaves
+/// to the next one.
+///
+/// The walk knows nothing of depth: it enters each group it meets, ignores how
+/// long the group says it is, and measures leaves against the end of the file.
+pub(crate) fn walk(file: &[u8], from: u64, leaves_before: u64) -> Result<Row, Refusal> {
+    let end = file.len() as u64;
+    let mut place = from;
+    let mut leaves_before = leaves_before;
+    while place < end {
+        let label = Label::read_at(file, place, end)?;
+        let start = place + LABEL_BYTES;
+        if label.is_group() {
+            place = start;
+            continue;
+        }
+        if label.length > end - start {
+            return Err(Reason::Overrun.at(place));
+        }
+        if leaves_before == 0 {
+            return Ok(Row {
+                start,
+                length: label.length,
+            });
+        }
+        leaves_before -= 1;
+        place = start + label.length;
+    }
+    Err(Reason::NoRow.at_start())
+}
+
+#[cfg(test)]
+mod tests {
+    use super::*;
+
+    #[test]
+    fn an_empty_file_has_no_row() {
+        assert_eq!(check(b""), Ok(0));
+        assert_eq!(
+            read_row(b"", 0, Window::new(0, 0)),
+            Err(Reason::NoRow.at_start())
+        );
+    }
+
+    #[test]
+    fn a_late_fault_refuses_an_early_row() {
+        let file = b"NJPL1I00DEMO00000003abcNJPL1I00DEMO0000000x";
+        let refusal = Err(Reason::BadLength.at(23));
+        assert_eq!(read_row(file, 0, Window::new(0, 1)), refusal);
+        assert_eq!(read_row(file, 9, Window::new(9, 9)), refusal);
+    }
+
+    #[test]
+    fn rows_are_numbered_across_groups() {
+        let file = b"CCSD1Z00000100000043NJPL1I00DEMO00000003abcNJPL1I00DEMO00000000\
+                     CCSD1Z00000100000000NJPL1K00LAST00000002xy";
+        assert_eq!(check(file), Ok(3));
+        let part = read_row(file, 2, Window::new(1, 1)).unwrap();
+        assert_eq!((part.place, part.bytes), (104, &b"y"[..]));
+        let empty = read_row(file, 1, Window::new(0, 0)).unwrap();
+        assert_eq!((empty.place, empty.bytes), (63, &b""[..]));
+        assert_eq!(
+            read_row(file, 1, Window::new(0, 1)),
+            Err(Reason::NoPart.at_start())
+        );
+        assert_eq!(
+            read_row(file, 3, Window::new(0, 0)),
+            Err(Reason::NoRow.at_start())
+        );
+    }
+
+    #[test]
+    fn fill_after_the_last_object_is_no_part_of_a_file() {
+        let mut file = b"NJPL1I00DEMO00000000".to_vec();
+        file.extend([b'^'; 19]);
+        assert_eq!(check(&file), Err(Reason::Short.at(20)));
+        file.push(b'^');
+        assert_eq!(check(&file), Err(Reason::BadLabel.at(20)));
+    }
+
+    #[test]
+    fn a_label_inside_a_leaf_is_only_bytes() {
+        let file = b"NJPL1I00DEMO00000020NJPL1I00DEMO00000000";
+        assert_eq!(check(file), Ok(1));
+    }
+
+    #[test]
+    fn one_byte_inside_the_deepest_group_is_too_deep() {
+        let mut file = Vec::new();
+        for left in (0..8).rev() {
+            file.extend(format!("CCSD1Z000001{:08}", left * 20 + 1).bytes());
+        }
+        file.push(b'x');
+        assert_eq!(check(&file), Err(Reason::Deep.at(160)));
+    }
+
+    fn from(file: &[u8], place: u64) -> Result<(u64, &[u8]), Refusal> {
+        row_from(file, place).map(|part| (part.place, part.bytes))
+    }
+
+    #[test]
+    fn going_on_at_the_end_of_each_row_gives_all_rows() {
+        let file = b"CCSD1Z00000100000043NJPL1I00DEMO00000003abcNJPL1I00DEMO00000000\
+                     CCSD1Z00000100000000NJPL1K00LAST00000002xy";
+        assert_eq!(from(file, 0), Ok((40, &b"abc"[..])));
+        assert_eq!(from(file, 43), Ok((63, &b""[..])));
+        assert_eq!(from(file, 63), Ok((103, &b"xy"[..])));
+        assert_eq!(from(file, 105), Err(Reason::NoRow.at_start()));
+    }
+
+    #[test]
+    fn a_place_beyond_the_file_has_no_row() {
+        for place in [1, 2, 1 << 32, u64::MAX - 19, u64::MAX] {
+            assert_eq!(from(b"", place), Err(Reason::NoRow.at_start()));
+        }
+        assert_eq!(from(b"", 0), Err(Reason::NoRow.at_start()));
+        assert_eq!(from(&[0; 30], 31), Err(Reason::NoRow.at_start()));
+    }
+
+    #[test]
+    fn going_on_meets_faults_where_it_comes_by() {
+        let file = b"NJPL1I00DEMO00000003abcCCSD1Z0000010000x000NJPL1I00DEMO00000009abc";
+        assert_eq!(from(file, 0), Ok((20, &b"abc"[..])));
+        assert_eq!(from(file, 1), Err(Reason::BadLabel.at(1)));
+        assert_eq!(from(file, 23), Err(Reason::BadLength.at(23)));
+        assert_eq!(from(file, 43), Err(Reason::Overrun.at(43)));
+        assert_eq!(from(file, 60), Err(Reason::Short.at(60)));
+    }
+
+    #[test]
+    fn going_on_enters_groups_whatever_their_length() {
+        let file = b"CCSD1Z00000199999999CCSD1Z00000100000000NJPL1I00DEMO00000003abc";
+        assert_eq!(from(file, 0), Ok((60, &b"abc"[..])));
+        let deep = b"CCSD1Z00000100000000".repeat(12);
+        assert_eq!(from(&deep, 0), Err(Reason::NoRow.at_start()));
+    }
+
+    #[test]
+    fn going_on_inside_a_value_takes_its_bytes_for_labels() {
+        let file = b"NJPL1I00DEMO00000023NJPL1I00DEMO00000003abc";
+        assert_eq!(from(file, 20), Ok((40, &b"abc"[..])));
+    }
+}

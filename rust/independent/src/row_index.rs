@@ -1,0 +1,188 @@
+//! The index of a labelled file, and the jump that uses one.
+
+use crate::check_size;
+use crate::labelled::{self, leaves, walk};
+use crate::refusal::{Reason, Refusal};
+use crate::window::{Part, Window};
+
+/// One entry stands for this many rows.
+pub const GROUP_ROWS: u64 = 16;
+
+/// What the builder answers.
+#[derive(Clone, Copy, Debug, PartialEq, Eq)]
+pub struct Built {
+    pub entries: u64,
+    pub rows: u64,
+}
+
+/// Writes the index of a file to the front of `list`.
+pub fn build(file: &[u8], list: &mut [u32]) -> Result<Built, Refusal> {
+    let rows = labelled::check(file)?;
+    let entries = rows.div_ceil(GROUP_ROWS);
+    if (list.len() as u64) < entries {
+        return Err(Reason::Small.at_start());
+    }
+    for (slot, entry) in list.iter_mut().zip(entries_of(file)?) {
+        *slot = entry?;
+    }
+    Ok(Built { entries, rows })
+}
+
+/// Accepts a list that is exactly the index of an accepted file.
+pub fn check(file: &[u8], list: &[u32]) -> Result<(), Refusal> {
+    labelled::check(file)?;
+    if entries_of(file)?.eq(list.iter().map(|&entry| Ok(entry))) {
+        Ok(())
+    } else {
+        Err(Reason::BadIndex.at_start())
+    }
+}
+
+/// Reads a window of row `number` by walking on from the entry of its group.
+pub fn jump<'a>(
+    file: &'a [u8],
+    list: &[u32],
+    number: u64,
+    window: Window,
+) -> Result<Part<'a>, Refusal> {
+    let end = file.len() as u64;
+    check_size(end)?;
+    let entry = usize::try_from(number / GROUP_ROWS)
+        .ok()
+        .and_then(|group| list.get(group))
+        .ok_or(Reason::NoRow.at_start())?;
+    let place = u64::from(*entry);
+    if place > end {
+        return Err(Reason::BadIndex.at_start());
+    }
+    let row = walk(file, place, number % GROUP_ROWS)?;
+    window.show(file, row)
+}
+
+/// The label places of rows 0, 16, 32 and so on. They fit 32 bits because the
+/// size of the file does.
+fn entries_of(file: &[u8]) -> Result<impl Iterator<Item = Result<u32, Refusal>> + '_, Refusal> {
+    Ok(leaves(file)?
+        .step_by(GROUP_ROWS as usize)
+        .map(|leaf| leaf.map(|leaf| leaf.place as u32)))
+}
+
+#[cfg(test)]
+mod tests {
+    use super::*;
+
+    const ALL: Window = Window { first: 0, count: 0 };
+
+    /// `rows` leaves of one byte each, 21 bytes apart.
+    fn flat(rows: u8) -> Vec<u8> {
+        (0..rows)
+            .flat_map(|row| [b"NJPL1I00DEMO00000001".as_slice(), &[row]].concat())
+            .collect()
+    }
+
+    #[test]
+    fn an_entry_for_each_started_group() {
+        for (rows, entries) in [(0, 0), (1, 1), (15, 1), (16, 1), (17, 2), (32, 2), (33, 3)] {
+            let file = flat(rows);
+            let mut list = [7; 4];
+            let built = Built {
+                entries,
+                rows: rows.into(),
+            };
+            assert_eq!(build(&file, &mut list), Ok(built));
+            let used = entries as usize;
+            assert_eq!(list[..used], [0, 336, 672][..used]);
+            assert!(list[used..].iter().all(|&entry| entry == 7));
+            assert_eq!(check(&file, &list[..used]), Ok(()));
+            assert_eq!(check(&file, &list), Err(Reason::BadIndex.at_start()));
+            if used > 0 {
+                let shorter = &list[..used - 1];
+                assert_eq!(check(&file, shorter), Err(Reason::BadIndex.at_start()));
+            }
+        }
+    }
+
+    #[test]
+    fn a_short_list_is_left_alone() {
+        let file = flat(17);
+        let mut list = [7; 1];
+        assert_eq!(build(&file, &mut list), Err(Reason::Small.at_start()));
+        assert_eq!(list, [7]);
+    }
+
+    #[test]
+    fn faults_come_before_the_list() {
+        let file = [0; 19];
+        let mut list = [7; 1];
+        assert_eq!(build(&file, &mut []), Err(Reason::Short.at(0)));
+        assert_eq!(build(&file, &mut list), Err(Reason::Short.at(0)));
+        assert_eq!(check(&file, &list), Err(Reason::Short.at(0)));
+        assert_eq!(list, [7]);
+    }
+
+    #[test]
+    fn a_missing_entry_hides_every_fault() {
+        assert_eq!(jump(&[0; 30], &[], 0, ALL), Err(Reason::NoRow.at_start()));
+        assert_eq!(jump(&[0; 30], &[0], 16, ALL), Err(Reason::NoRow.at_start()));
+        assert_eq!(
+            jump(&[0; 30], &[0], u64::MAX, ALL),
+            Err(Reason::NoRow.at_start())
+        );
+        assert_eq!(
+            jump(&flat(1), &[0], 1 << 36, ALL),
+            Err(Reason::NoRow.at_start())
+        );
+    }
+
+    #[test]
+    fn entries_at_and_beyond_the_end() {
+        let file = flat(1);
+        assert_eq!(jump(&file, &[21], 0, ALL), Err(Reason::NoRow.at_start()));
+        assert_eq!(jump(&file, &[22], 0, ALL), Err(Reason::BadIndex.at_start()));
+        assert_eq!(
+            jump(&file, &[u32::MAX], 0, ALL),
+            Err(Reason::BadIndex.at_start())
+        );
+        assert_eq!(jump(&file, &[20], 0, ALL), Err(Reason::Short.at(20)));
+    }
+
+    #[test]
+    fn the_walk_enters_groups_whatever_their_length() {
+        let file = b"CCSD1Z00000199999999CCSD1Z00000100000000NJPL1I00DEMO00000003abc";
+        let part = jump(file, &[0], 0, Window::new(0, 3)).unwrap();
+        assert_eq!((part.place, part.bytes), (60, &b"abc"[..]));
+        let bad = b"CCSD1Z0000010000x000NJPL1I00DEMO00000003abc";
+        assert_eq!(jump(bad, &[0], 0, ALL), Err(Reason::BadLength.at(0)));
+        let deep = b"CCSD1Z00000100000000".repeat(12);
+        assert_eq!(jump(&deep, &[0], 0, ALL), Err(Reason::NoRow.at_start()));
+    }
+
+    #[test]
+    fn a_leaf_is_measured_against_the_file() {
+        // The group claims to be empty, and the leaf runs past it.
+        let file = b"CCSD1Z00000100000000NJPL1I00DEMO00000003abc";
+        let part = jump(file, &[0], 0, Window::new(2, 1)).unwrap();
+        assert_eq!((part.place, part.bytes), (42, &b"c"[..]));
+        let long = b"CCSD1Z00000100000000NJPL1I00DEMO00000004abc";
+        assert_eq!(
+            jump(long, &[0], 0, Window::new(9, 9)),
+            Err(Reason::Overrun.at(20))
+        );
+    }
+
+    #[test]
+    fn an_entry_into_a_value_is_followed() {
+        let file = b"NJPL1I00DEMO00000023NJPL1I00DEMO00000003abc";
+        let part = jump(file, &[20], 0, Window::new(0, 3)).unwrap();
+        assert_eq!((part.place, part.bytes), (40, &b"abc"[..]));
+        assert_eq!(jump(file, &[1], 0, ALL), Err(Reason::BadLabel.at(1)));
+    }
+
+    #[test]
+    fn what_the_walk_does_not_meet_is_no_fault() {
+        let mut file = flat(2);
+        file.extend([0; 5]);
+        assert!(jump(&file, &[0], 1, ALL).is_ok());
+        assert_eq!(jump(&file, &[0], 2, ALL), Err(Reason::Short.at(42)));
+    }
+}
