@@ -10,11 +10,11 @@ use Rattle.answer.specs.Size.{largestFile}
 use Rattle.answer.specs.Window.{bytesAt}
 use Rattle.answer.specs.declared.Part.{Part}
 use Rattle.answer.proofs.Outcomes.{mapped-answer, answer-injective}
-use Rattle.sfdu.specs.Row.{Row, valueOf, rowBytes}
+use Rattle.sfdu.specs.Row.{Row, valueOf}
 use Rattle.sfdu.specs.Forest.{Forest, leaves}
 use Rattle.sfdu.specs.Check.{rowsOfFile, checkLabelled}
 use Rattle.sfdu.proofs.Exact.{DividesFile, accepted-exactly, only-one-forest}
-use Rattle.sfdu.proofs.Values.{bytes-are-values}
+use Rattle.sfdu.proofs.Values.{rowBytes, bytes-are-values}
 use Rattle.waveform.specs.Rows as waveform
 use Rattle.waveform.specs.Check.{rowCount}
 use Rattle.waveform.proofs.Framing.{accepted-is-rows, only-one-way, bytes-are-samples}

@@ -1,8 +1,6 @@
 -- A row of a labelled file and its address (document 01: "The rows of a labelled file are its leaves in file order,
 -- numbered from 0; the bytes of a row are the leaf's value").
 use Prim.Native.Nat.{ℕ, _+_}
-use mathlib.Core.List.{List}
-use Rattle.answer.specs.Window.{bytesAt}
 use Rattle.answer.specs.declared.Part.{Part}
 use Rattle.label.specs.Head.{labelSize}
 
@@ -23,7 +21,3 @@ valueAt r = r .label + labelSize
 -- a row as a part of the file: the leaf's value
 abbrev pub valueOf : Row → Part
 valueOf r = record { place = valueAt r; count = r .size }
-
--- the bytes of a row of this file
-abbrev pub rowBytes : List ℕ → Row → List ℕ
-rowBytes f r = bytesAt f (valueAt r) (r .size)

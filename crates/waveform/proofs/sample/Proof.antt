@@ -4,7 +4,7 @@ use native.Mathlib.Omega.{arith}
 use borrow.Author.Needs.{needs}
 use mir.Syntax.{w64}
 use mir.Facts.{toZ-pos, toZ-ofZ}
-use Rattle.waveform.proofs.Amplitude.{amplitude-fits}
+use Rattle.waveform.proofs.Amplitude.{amplitude-fits, difference-fits}
 use Rattle.waveform.proofs.sample.Statement.{statement}
 use Rattle.waveform.proofs.sample.Tie as tie
 
@@ -17,7 +17,7 @@ mul-result c = rw (toZ-pos w64 {n = c .args .s} (omega arith)) (omega arith)
 sub-result : tie.Need-sub-result
 sub-result c =
     rw (toZ-pos w64 {n = c .args .s} (omega arith), toZ-pos w64 {n = 2 * c .args .s} (omega arith))
-    (amplitude-fits (c .args .s) (omega arith))
+    (difference-fits (c .args .s) _ (omega arith) (omega arith))
 
 returns : tie.Need-returns
 returns c =
