@@ -7,7 +7,7 @@ ghost use Prim.Native.Nat.{_+_, _≤_};
 ghost use mathlib.Core.Bool.{_||_};
 ghost use lib.ListN.{length, drop};
 ghost use Rattle.text.specs.Digits.{isDigit};
-ghost use Rattle.label.specs.Head.{isCapital, isAgency, isForm, isDescription, headGood, isHead, fourAt};
+ghost use Rattle.label.specs.Head.{labelSize, isCapital, isAgency, isForm, isDescription, headGood, isHead, fourAt};
 ghost use Rattle.label.specs.Length.{lengthOf};
 ghost use Rattle.label.specs.Opened.{isOpened};
 ghost use Rattle.label.specs.Label.{told, labelOf, readLabel};
@@ -114,7 +114,7 @@ pub fn is_head(head: &[u8]) -> bool
 
 // The length field of a label's twenty bytes.
 fn length_field(b: &[u8]) -> Field
-    requires { ⌜ length (now b) ≡ 20 ⌝ }
+    requires { ⌜ length (now b) ≡ labelSize ⌝ }
     ensures { λ r. ⌜ fieldRead r ≡ lengthOf (drop 12 (now (b .entry))) ⌝ }
 {
     let mut n: usize = 0;
@@ -135,7 +135,7 @@ fn length_field(b: &[u8]) -> Field
 
 // The label that twenty bytes are.
 fn label_of(b: &[u8]) -> LabelRead
-    requires { ⌜ length (now b) ≡ 20 ⌝ }
+    requires { ⌜ length (now b) ≡ labelSize ⌝ }
     ensures { λ r. ⌜ told r ≡ labelOf (now (b .entry)) ⌝ }
 {
     if !head_is_good(b) {

@@ -14,6 +14,7 @@ ghost use Rattle.answer.specs.Outcome.{answer};
 ghost use Rattle.answer.specs.Filled.{Writes};
 ghost use Rattle.sfdu.specs.Check.{counting};
 ghost use Rattle.text.specs.Decimal.{decimalText};
+ghost use Rattle.label.specs.Head.{labelSize};
 ghost use Rattle.listing.specs.Line.{headText};
 ghost use Rattle.listing.specs.Listing.{rowsListed, rowLines, listingOf, Front};
 ghost use Rattle.listing.specs.Private.{Holds, Room, Grown, leafText, Puts};
@@ -81,7 +82,7 @@ fn head_line(checked: Count) -> Line
 
 // A row's line: its number, the place of its value, its length and its description.
 fn row_line(number: usize, leaf: Leaf) -> Line
-    requires { ⌜ leaf .place + 20 < 2 ^ 64 ⌝ }
+    requires { ⌜ leaf .place + labelSize < 2 ^ 64 ⌝ }
     ensures { λ r. ⌜ Holds r (leafText number leaf) ⌝ }
 {
     let l = leaf.label;

@@ -1,4 +1,4 @@
--- Going on in a waveform file from a place (house rule, docs/DECISIONS.md, "Going on"): 14, 12, then 6 for a place past the
+-- Going on in a waveform file from a place (our own rule, docs/DECISIONS.md, "Going on"): 14, 12, then 6 for a place past the
 -- last row or where no row begins; else the row that begins there.
 use Prim.Native.Nat.{ℕ, _+_, _%_}
 use mathlib.Core.Bool.{_&&_}
