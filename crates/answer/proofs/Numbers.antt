@@ -1,5 +1,5 @@
 -- No refusal has the number 0, so that 0 can stand for an answer where a call's result is a number.
-use Prim.Native.Nat.{ℕ, _<_}
+use Prim.Native.Nat.{_<_}
 use native.Mathlib.Omega.{arith}
 use Rattle.answer.specs.Refusal.{numberOf}
 use Rattle.answer.specs.declared.Refusal.{Refusal}

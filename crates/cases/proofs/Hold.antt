@@ -9,7 +9,7 @@ use Rattle.walk.specs.Find as labelled
 use Rattle.row_index.specs.Index.{buildIndex, checkIndex}
 use Rattle.waveform.proofs.Cases as waveform
 use Rattle.reader.specs.Rows.{checkFile}
-use Rattle.reader.specs.Read.{findRow, jumpTo, readRow, jumpRow}
+use Rattle.reader.specs.Read.{findRow, readRow, jumpRow}
 use Rattle.text.specs.Decimal.{decimalText}
 use Rattle.listing.specs.Listing.{rowsListed, listingOf}
 use Rattle.limits.specs.Limits.{table}

@@ -9,7 +9,7 @@ use Rattle.answer.specs.Outcome.{Outcome, answer, refuse, mapped}
 use Rattle.answer.specs.Size.{largestFile}
 use Rattle.answer.specs.Window.{bytesAt}
 use Rattle.answer.specs.declared.Part.{Part}
-use Rattle.answer.proofs.Outcomes.{mapped-answer, answer-injective}
+use Rattle.answer.proofs.Outcomes.{mapped-answer}
 use Rattle.sfdu.specs.Row.{Row, valueOf}
 use Rattle.sfdu.specs.Forest.{Forest, leaves}
 use Rattle.sfdu.specs.Check.{rowsOfFile, checkLabelled}
@@ -81,16 +81,34 @@ waveform-counts (refuse n p) = refl
 
 -- ---- demand 2
 
+-- what is accepted, from what the rows are and that the check counts them
+accepted-exactly-from : (kind : Kind) (f : List ℕ)
+    → ((rows : List Part) → (rowParts kind f ≡ answer rows) ↔ ((length f ≤ largestFile) × ((d : Division kind) × Divides kind f d × (rowsIn kind d ≡ rows))))
+    → checkFile kind f ≡ mapped length (rowParts kind f)
+    → (n : ℕ)
+    → (checkFile kind f ≡ answer n) ↔ ((length f ≤ largestFile) × ((d : Division kind) × Divides kind f d × (length (rowsIn kind d) ≡ n)))
+accepted-exactly-from kind f rows-are counts n = (
+  (λ e.
+      let (rows, found, many) = mapped-answer length (rowParts kind f) n (sym counts ∙ e) in
+      let (small, (d, divides, is)) = rows-are rows .0 found in
+      (small, (d, divides, ap length is ∙ many))),
+  (λ q.
+      let (d, divides, many) = q .1 in
+      counts ∙ ap (mapped length) (rows-are (rowsIn kind d) .1 (q .0, (d, divides, refl))) ∙ ap answer many),
+)
+
 pub demand-2 : (kind : Kind) (f : List ℕ) → Demand2 kind f
 unfolding checkFile checkLabelled rowParts
 demand-2 Labelled f = record {
-  exactly = labelled-exactly f;
+  accepted = accepted-exactly-from Labelled f (labelled-exactly f) (labelled-counts (rowsOfFile f));
+  rows-are = labelled-exactly f;
   counts = labelled-counts (rowsOfFile f);
   only-one = λ F G d e. only-one-forest F G (d .sound) (e .sound) (d .bytes ∙ sym (e .bytes));
   values-are = λ F d. map-of-map f (leaves 1 (λ at. at) 0 F) ∙ bytes-are-values f (leaves 1 (λ at. at) 0 F) F (by-grammar f F d);
 }
 demand-2 Waveform f = record {
-  exactly = waveform-exactly f;
+  accepted = accepted-exactly-from Waveform f (waveform-exactly f) (waveform-counts (rowCount f));
+  rows-are = waveform-exactly f;
   counts = waveform-counts (rowCount f);
   only-one = λ rs qs d e. only-one-way rs qs (d .sound) (e .sound) (d .bytes ∙ sym (e .bytes));
   values-are = λ rs d. bytes-are-samples f rs (d .sound) (d .bytes);

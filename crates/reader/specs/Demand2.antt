@@ -48,10 +48,13 @@ pub record Divides (kind : Kind) (f : List ℕ) (d : Division kind) : Type 0 whe
   pub sound : Sound kind d
 
 pub record Demand2 (kind : Kind) (f : List ℕ) : Type 0 where
-  -- accepted with these rows: exactly where the file is not too big and divides into them
-  pub exactly : (rows : List Part)
+  -- accepted with so many rows: exactly where the file is not too big and divides into so many
+  pub accepted : (n : ℕ)
+      → (checkFile kind f ≡ answer n) ↔ ((length f ≤ largestFile) × ((d : Division kind) × Divides kind f d × (length (rowsIn kind d) ≡ n)))
+  -- the rows are those of the division
+  pub rows-are : (rows : List Part)
       → (rowParts kind f ≡ answer rows) ↔ ((length f ≤ largestFile) × ((d : Division kind) × Divides kind f d × (rowsIn kind d ≡ rows)))
-  -- the check answers how many rows there are
+  -- the check counts these rows, and refuses where they cannot be had
   pub counts : checkFile kind f ≡ mapped length (rowParts kind f)
   -- there is one division only
   pub only-one : (d e : Division kind) → Divides kind f d → Divides kind f e → d ≡ e

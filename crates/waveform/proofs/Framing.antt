@@ -5,14 +5,14 @@ use native.Mathlib.Nat.{mul-suc}
 use native.Mathlib.Omega.{arith}
 use mathlib.Core.Path.{_≡_, refl, _∙_, sym, ap, ap₂}
 use mathlib.Core.Logic.{_↔_}
-use mathlib.Core.List.{List, [], _∷_, _++_, append-nil, map}
+use mathlib.Core.List.{List, [], _∷_, _++_, map}
 use lib.ListN.{length, take, drop, length-append, length-take, length-drop, take-append-drop}
 use lib.Seq.{take-at, drop-at, drop-drop}
 use Rattle.answer.specs.Outcome.{answer}
 use Rattle.answer.specs.Size.{largestFile}
 use Rattle.answer.specs.Window.{bytesAt}
 use Rattle.answer.specs.declared.Part.{Part}
-use Rattle.waveform.specs.Rows.{Row, IsRow, AreRows, endToEnd, rowSize, prefixSize, samplesSize, firstSample, sampleParts}
+use Rattle.waveform.specs.Rows.{Row, IsRow, AreRows, endToEnd, rowSize, prefixSize, samplesSize, sampleParts}
 use Rattle.waveform.specs.Check.{rowCount}
 use Rattle.waveform.proofs.Accepted.{accepted-is-whole, whole-is-accepted}
 

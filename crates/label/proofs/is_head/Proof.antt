@@ -1,5 +1,5 @@
 -- `label::is_head` meets its contract: by the count of bytes, then by their test.
-use mathlib.Core.Path.{_≡_, _∙_, sym}
+use mathlib.Core.Path.{_∙_, sym}
 use borrow.Author.Tests.{eq-eqb, ne-eqb}
 use borrow.Author.Needs.{needs}
 use Rattle.label.proofs.is_head.Statement.{statement}

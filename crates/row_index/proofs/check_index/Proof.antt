@@ -5,7 +5,7 @@ use mathlib.Core.Bool.{Bool}
 use mathlib.Core.List.{List}
 use Prim.Native.Nat.{ℕ}
 use denote.Ref.{now}
-use Rattle.answer.specs.Outcome.{Outcome, answer, need}
+use Rattle.answer.specs.Outcome.{answer, need}
 use Rattle.answer.specs.Counted.{counted}
 use Rattle.sfdu.specs.Check.{checkLabelled}
 use Rattle.row_index.specs.Index.{same, checkIndex}

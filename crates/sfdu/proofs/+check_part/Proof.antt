@@ -2,7 +2,7 @@
 -- are left; the invariant is `Sofar`, each arm is one law of `Nested`, and what an arm knows of its object is `leaf` or `group`.
 use Prim.Native.Nat.{ℕ, _+_, _-_, _<_}
 use native.Mathlib.Omega.{arith}
-use mathlib.Core.Path.{_∙_, sym, ap, subst}
+use mathlib.Core.Path.{ap, subst}
 use mathlib.Core.Bool.{true, false}
 use lib.ListN.{length}
 use borrow.Author.Needs.{needs}
