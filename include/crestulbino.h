@@ -84,7 +84,7 @@ static inline crest_refusal_words crest_words_of(uint64_t number)
         {"ANSWERED", "the call answered"},
         {"SHORT", "too few bytes remain for a label or a number"},
         {"BADLABEL", "bytes 0 to 11 are not those of a label"},
-        {"BADLENGTH", "a byte of the label's length is no digit"},
+        {"BADLENGTH", "the label's length field is not spaces followed by digits"},
         {"OVERRUN", "the value ends beyond its enclosing value or the file"},
         {"DEEP", "a label stands deeper than depth 8"},
         {"NOROW", "no row has this number or begins from this place on"},
@@ -119,15 +119,15 @@ static inline const char *crest_refusal_text(uint64_t number)
 
 /*
  * label::read_label. Reads the label at the front of bytes; what follows it is ignored. length is the number of bytes behind the
- * label that it claims, and is compared with nothing.
+ * label that it claims, and is compared with nothing. spaces, 0 to 7, is how many spaces stand in front of the length's digits.
  * Refuses: SHORT, BADLABEL, BADLENGTH.
- * Writes: agency, class_, description, length.
+ * Writes: agency, class_, description, length, spaces.
  */
 crest_result crest_read_label(const uint8_t *bytes, size_t bytes_len, uint8_t agency[4], uint8_t *class_,
-                              uint8_t description[4], uint64_t *length);
+                              uint8_t description[4], uint64_t *length, uint8_t *spaces);
 
 /*
- * label_writer::write_label. Writes a label of the twelve bytes head, for length bytes behind it.
+ * label_writer::write_label. Writes a label of the twelve bytes head, for length bytes behind it, with the length in eight digits.
  * Refuses: BADLABEL (also where head_len is not 12), TOOLONG, SMALL.
  * Writes: the first 20 bytes of out; written, which is 20.
  */

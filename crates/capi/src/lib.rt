@@ -44,12 +44,14 @@ pub extern "C" fn crest_read_label(
     class: &mut u8,
     description: &mut [u8; 4],
     length: &mut usize,
+    spaces: &mut u8,
 ) -> Result
     ensures { λ r. ⌜ r ≡ resultOf (readLabel (now (bytes .entry))) ⌝ }
     ensures { λ _. ⌜ now (agency .exit) ≡ handed (λ l. fourBytes (l .agency)) (readLabel (now (bytes .entry))) (now (agency .entry)) ⌝ }
     ensures { λ _. ⌜ now (class .exit) ≡ handed (λ l. l .class) (readLabel (now (bytes .entry))) (now (class .entry)) ⌝ }
     ensures { λ _. ⌜ now (description .exit) ≡ handed (λ l. fourBytes (l .description)) (readLabel (now (bytes .entry))) (now (description .entry)) ⌝ }
     ensures { λ _. ⌜ now (length .exit) ≡ handed (λ l. l .length) (readLabel (now (bytes .entry))) (now (length .entry)) ⌝ }
+    ensures { λ _. ⌜ now (spaces .exit) ≡ handed (λ l. l .spaces) (readLabel (now (bytes .entry))) (now (spaces .entry)) ⌝ }
 {
     match label::read_label(bytes) {
         LabelRead::Is(l) => {
@@ -59,6 +61,7 @@ pub extern "C" fn crest_read_label(
             *class = l.class;
             *description = [about.a, about.b, about.c, about.d];
             *length = l.length;
+            *spaces = l.spaces;
             hand::DONE
         }
         LabelRead::Refused(why, place) => hand::refused(why, place),

@@ -37,6 +37,7 @@ shorterOutside = outer42 ++ (inner3 ++ (abc ++ inner0))
 abbrev pub longerInside : List ℕ
 longerInside = outer43 ++ (inner24 ++ (abc ++ inner0))
 
--- what the list program prints for the 63 bytes: `rows 2`, `0 40 3 DEMO`, `1 63 0 DEMO`, each line ended by byte 10
+-- what the list program prints for the 63 bytes (document 02, item 2): `rows 2`, `0 40 3 DEMO 0`, `1 63 0 DEMO 0`, each line ended
+-- by byte 10
 abbrev pub printed : List ℕ
-printed = 114 ∷ 111 ∷ 119 ∷ 115 ∷ 32 ∷ 50 ∷ 10 ∷ 48 ∷ 32 ∷ 52 ∷ 48 ∷ 32 ∷ 51 ∷ 32 ∷ 68 ∷ 69 ∷ 77 ∷ 79 ∷ 10 ∷ 49 ∷ 32 ∷ 54 ∷ 51 ∷ 32 ∷ 48 ∷ 32 ∷ 68 ∷ 69 ∷ 77 ∷ 79 ∷ 10 ∷ []
+printed = 114 ∷ 111 ∷ 119 ∷ 115 ∷ 32 ∷ 50 ∷ 10 ∷ 48 ∷ 32 ∷ 52 ∷ 48 ∷ 32 ∷ 51 ∷ 32 ∷ 68 ∷ 69 ∷ 77 ∷ 79 ∷ 32 ∷ 48 ∷ 10 ∷ 49 ∷ 32 ∷ 54 ∷ 51 ∷ 32 ∷ 48 ∷ 32 ∷ 68 ∷ 69 ∷ 77 ∷ 79 ∷ 32 ∷ 48 ∷ 10 ∷ []

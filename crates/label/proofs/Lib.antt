@@ -1,3 +1,4 @@
+pub mod Spaces
 pub mod LengthField
 pub mod Reading
 pub mod Read

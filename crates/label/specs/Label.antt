@@ -1,5 +1,5 @@
 -- The label reader (document 01, "The label"; the table of refusals, 1, 2 and 3: "gives 1, 2, 3 in that order and no other
--- refusal, at place 0").
+-- refusal, at place 0"; document 02, item 2: "also says how many spaces it found").
 use Prim.Native.Nat.{ℕ}
 use mathlib.Core.List.{List}
 use mathlib.Core.Option.{Option, none, some}
@@ -8,7 +8,7 @@ use lib.Dec.{leb}
 use Rattle.answer.specs.Outcome.{Outcome, answer, refuse, need}
 use Rattle.answer.specs.Refusal.{numberOf}
 use Rattle.label.specs.Head.{labelSize, headSize, headGood, fourAt}
-use Rattle.label.specs.Length.{lengthOf}
+use Rattle.label.specs.Length.{Length, lengthOf}
 use Rattle.label.specs.declared.Label.{Label}
 use Rattle.label.specs.declared.LabelRead.{LabelRead}
 use Rattle.label.specs.declared.LabelRead.the-variants.{Is, Refused}
@@ -18,12 +18,12 @@ abbrev pub told : LabelRead → Outcome Label
 told (Is l) = answer l
 told (Refused why place) = refuse (numberOf why) place
 
--- the label with these first bytes and this length
-abbrev pub labelled : List ℕ → ℕ → Label
-labelled b n = record { agency = fourAt b 0; class = getD b 5 0; description = fourAt b 8; length = n }
+-- the label with these first bytes, this length and so many spaces
+abbrev pub labelled : List ℕ → ℕ → ℕ → Label
+labelled b n spaces = record { agency = fourAt b 0; class = getD b 5 0; description = fourAt b 8; length = n; spaces = spaces }
 
-abbrev pub withLength : List ℕ → Option ℕ → Outcome Label
-withLength b (some n) = answer (labelled b n)
+abbrev pub withLength : List ℕ → Option Length → Outcome Label
+withLength b (some l) = answer (labelled b (l .bytes) (l .spaces))
 withLength b none = refuse 3 0
 
 -- the label that twenty bytes are: 2, then 3

@@ -1,10 +1,46 @@
--- The length field, bytes 12-19 of a label (document 01: "eight ASCII digits: the number of bytes after the label").
--- This is the one place that says which fields are read and as what.
-use Prim.Native.Nat.{ℕ}
-use mathlib.Core.List.{List}
-use mathlib.Core.Option.{Option}
+-- The length field, bytes 12-19 of a label (document 01: "the number of bytes after the label"; document 02, item 2: "zero or
+-- more spaces followed by one or more digits, eight bytes together"). This is the one place that says which fields are read
+-- and as what. A space is 32.
+use Prim.Native.Nat.{ℕ, suc, _+_}
+use mathlib.Core.Bool.{Bool, true, false}
+use mathlib.Core.List.{List, [], _∷_}
+use mathlib.Core.Option.{Option, none, some}
+use lib.ListN.{take, drop}
+use lib.Dec.{eqb}
 use Rattle.text.specs.Digits.{decimal}
+use Rattle.label.specs.Head.{headSize}
 
--- the rule for the length field
-abbrev pub lengthOf : List ℕ → Option ℕ
-lengthOf field = decimal 0 field
+-- how many bytes a length field has
+abbrev pub fieldSize : ℕ
+fieldSize = 8
+
+-- what a length field says: how many bytes stand after the label, and how many spaces stand before the field's digits
+pub record Length : Type 0 where
+  pub bytes : ℕ
+  pub spaces : ℕ
+
+abbrev pub oneMore : Bool → ℕ → ℕ
+oneMore true n = suc n
+oneMore false n = 0
+
+-- how many spaces stand in front
+abbrev pub spacesIn : List ℕ → ℕ
+spacesIn [] = 0
+spacesIn (b ∷ bs) = oneMore (eqb b 32) (spacesIn bs)
+
+-- the number that one or more digits write; none where there is no byte, or one that is no digit
+abbrev pub numberIn : List ℕ → Option ℕ
+numberIn [] = none
+numberIn (b ∷ bs) = decimal 0 (b ∷ bs)
+
+abbrev pub after : ℕ → Option ℕ → Option Length
+after spaces (some n) = some (record { bytes = n; spaces = spaces })
+after spaces none = none
+
+-- the rule for the length field: the spaces in front, and behind them digits only
+abbrev pub lengthOf : List ℕ → Option Length
+lengthOf field = after (spacesIn field) (numberIn (drop (spacesIn field) field))
+
+-- how many spaces the label at place `at` of a file has ("The label reader also says how many spaces it found")
+abbrev pub spacesAt : List ℕ → ℕ → ℕ
+spacesAt f at = spacesIn (take fieldSize (drop (at + headSize) f))

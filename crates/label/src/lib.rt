@@ -1,14 +1,15 @@
 // The 20-byte CCSDS label of one object, read from bytes. Renders document 01, "The label" (CCSDS
-// 620.0 version 1; source documents 001, section 3.5.12, and 004, section 4.4.146). Writing a label,
-// and how labelled objects stand in a file, is left to the crates above.
+// 620.0 version 1; source documents 001, section 3.5.12, and 004, section 4.4.146), with the length
+// field of document 02, item 2. Writing a label, and how labelled objects stand in a file, is left to
+// the crates above.
 use answer::Refusal;
 ghost use mathlib.Core.Path.{_≡_};
 ghost use Prim.Native.Nat.{_+_, _≤_};
 ghost use mathlib.Core.Bool.{_||_};
 ghost use lib.ListN.{length, drop};
 ghost use Rattle.text.specs.Digits.{isDigit};
-ghost use Rattle.label.specs.Head.{labelSize, isCapital, isAgency, isForm, isDescription, headGood, isHead, fourAt};
-ghost use Rattle.label.specs.Length.{lengthOf};
+ghost use Rattle.label.specs.Head.{labelSize, headSize, isCapital, isAgency, isForm, isDescription, headGood, isHead, fourAt};
+ghost use Rattle.label.specs.Length.{fieldSize, spacesIn, numberIn, after, lengthOf};
 ghost use Rattle.label.specs.Opened.{isOpened};
 ghost use Rattle.label.specs.Label.{told, labelOf, readLabel};
 ghost use Rattle.label.specs.Private.{fieldRead};
@@ -18,6 +19,9 @@ pub const LABEL: usize = 20;
 
 pub const HEAD: usize = 12;
 
+// How many bytes the length field has.
+const FIELD: usize = 8;
+
 // Four characters of a label: an agency or a description.
 pub struct Four {
     pub a: u8,
@@ -26,12 +30,14 @@ pub struct Four {
     pub d: u8,
 }
 
-// What a label says. `length` is the number of bytes after the label: its value. (In this order no
-// field crosses a word's end, so that an answer is copied in whole words.)
+// What a label says. `length` is the number of bytes after the label: its value. `spaces` is how many
+// spaces stand before the length's digits, 0 to 7. (In this order no field crosses a word's end, so
+// that an answer is copied in whole words.)
 pub struct Label {
     pub agency: Four,
     pub description: Four,
     pub class: u8,
+    pub spaces: u8,
     pub length: usize,
 }
 
@@ -41,9 +47,10 @@ pub enum LabelRead {
     Refused(Refusal, usize),
 }
 
-// A length field that was read; `Bad` where a byte is no digit.
+// A length field that was read: the length, and the spaces before its digits. `Bad` where it is not
+// spaces and then digits, one at least.
 enum Field {
-    Is(usize),
+    Is(usize, u8),
     Bad,
 }
 
@@ -112,14 +119,34 @@ pub fn is_head(head: &[u8]) -> bool
     head_is_good(head)
 }
 
-// The length field of a label's twenty bytes.
-fn length_field(b: &[u8]) -> Field
+// How many spaces stand at the front of the length field of a label's twenty bytes.
+fn spaces_in(b: &[u8]) -> usize
     requires { ⌜ length (now b) ≡ labelSize ⌝ }
-    ensures { λ r. ⌜ fieldRead r ≡ lengthOf (drop 12 (now (b .entry))) ⌝ }
+    ensures { λ r. ⌜ (r ≡ spacesIn (drop headSize (now (b .entry)))) × (r ≤ fieldSize) ⌝ }
 {
+    let mut spaces: usize = 0;
+    while spaces < FIELD {
+        if b[HEAD + spaces] != 32 {
+            return spaces;
+        }
+        spaces += 1;
+    }
+    spaces
+}
+
+// The length field of a label's twenty bytes where so many spaces are passed: what stands behind them
+// is digits, one at least.
+fn digits_after(b: &[u8], spaces: usize) -> Field
+    requires { ⌜ length (now b) ≡ labelSize ⌝ }
+    requires { ⌜ spaces ≤ fieldSize ⌝ }
+    ensures { λ r. ⌜ fieldRead r ≡ after spaces (numberIn (drop (headSize + spaces) (now (b .entry)))) ⌝ }
+{
+    if spaces == FIELD {
+        return Field::Bad;
+    }
     let mut n: usize = 0;
-    let mut i: usize = 0;
-    while i < 8 {
+    let mut i = spaces;
+    while i < FIELD {
         let digit = answer::wide(b[HEAD + i]);
         if digit < 48 {
             return Field::Bad;
@@ -130,7 +157,19 @@ fn length_field(b: &[u8]) -> Field
         n = n * 10 + (digit - 48);
         i += 1;
     }
-    Field::Is(n)
+    Field::Is(n, spaces as u8)
+}
+
+// The length field of a label's twenty bytes. Eight digits are read at once, and spaces looked for only
+// where that fails, so that a field without spaces costs nothing more.
+fn length_field(b: &[u8]) -> Field
+    requires { ⌜ length (now b) ≡ labelSize ⌝ }
+    ensures { λ r. ⌜ fieldRead r ≡ lengthOf (drop headSize (now (b .entry))) ⌝ }
+{
+    match digits_after(b, 0) {
+        Field::Is(n, spaces) => Field::Is(n, spaces),
+        Field::Bad => digits_after(b, spaces_in(b)),
+    }
 }
 
 // The label that twenty bytes are.
@@ -142,11 +181,12 @@ fn label_of(b: &[u8]) -> LabelRead
         return LabelRead::Refused(Refusal::BadLabel, 0);
     }
     match length_field(b) {
-        Field::Is(n) => LabelRead::Is(Label {
+        Field::Is(n, spaces) => LabelRead::Is(Label {
             agency: four_at(b, 0),
             class: b[5],
             description: four_at(b, 8),
             length: n,
+            spaces: spaces,
         }),
         Field::Bad => LabelRead::Refused(Refusal::BadLength, 0),
     }

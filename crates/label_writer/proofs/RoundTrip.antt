@@ -1,10 +1,11 @@
--- A label that was written reads back as the same label (document 01, demand 2). `written-reads-back` starts from what
--- the writer was given; `every-label-reads-back` starts from any label that the reader can answer.
+-- A label that was written reads back as the same label (`reads-back`). `written-reads-back` starts from what the writer was
+-- given; `every-label-reads-back` starts from any label that the reader can answer, and is written again without its spaces.
 use Prim.Native.Nat.{ℕ, _≤_}
 use native.Mathlib.Omega.{arith}
 use mathlib.Core.Path.{_≡_, _∙_, sym, ap}
 use mathlib.Core.Bool.{true}
-use mathlib.Core.List.{List, [], _++_, append-nil}
+use mathlib.Core.List.{List, _++_}
+use mathlib.Core.Option.{some}
 use lib.ListN.{length, take, length-append}
 use lib.Dec.{leb, eqb}
 use lib.Seq.{take-at, drop-at, length-take-le}
@@ -18,9 +19,11 @@ use Rattle.label.specs.Head.{headGood, isHead}
 use Rattle.label.specs.Length.{lengthOf}
 use Rattle.label.specs.declared.Label.{Label}
 use Rattle.label.specs.Label.{labelled, labelOf, withLength, readLabel}
+use Rattle.label.proofs.Spaces.{padded-is-read}
 use Rattle.label.proofs.Reading.{good-head, twenty-bytes-are-read}
 use Rattle.label.proofs.Read.{same-head-good, same-labelled, front-has-the-head, read-says}
 use Rattle.label_writer.specs.Write.{longest, writeLabel}
+use Rattle.label_writer.specs.ReadBack.{withoutSpaces, ReadsBack}
 use Rattle.label_writer.proofs.Writing.{written}
 
 -- what the writer writes, followed by anything, reads as the label with the bytes and the length that it was given
@@ -32,18 +35,21 @@ module _ (head : List ℕ) (n : ℕ) (rest : List ℕ) (twelve : length head ≡
   unfolding bytes
   twenty = length-append head (digitsOf 8 n) ∙ omega (arith, length-digits 8 n)
 
-  reads-as-written : readLabel (bytes ++ rest) ≡ answer (labelled head n)
+  reads-as-written : readLabel (bytes ++ rest) ≡ answer (labelled head n 0)
   unfolding bytes
   reads-as-written =
       twenty-bytes-are-read (bytes ++ rest) (omega (arith, length-append bytes rest, twenty))
       ∙ ap labelOf (take-at bytes rest 20 twenty)
       ∙ good-head bytes (same-head-good (front-has-the-head head (digitsOf 8 n) (omega arith)) ∙ good)
-      ∙ ap (withLength bytes) (ap lengthOf (drop-at head (digitsOf 8 n) 12 twelve) ∙ digits-read-back 8 n (omega arith))
-      ∙ ap answer (same-labelled (front-has-the-head head (digitsOf 8 n) (omega arith)) n)
+      ∙ ap (withLength bytes) (ap lengthOf (drop-at head (digitsOf 8 n) 12 twelve) ∙ no-spaces)
+      ∙ ap answer (same-labelled (front-has-the-head head (digitsOf 8 n) (omega arith)) n 0)
+    where
+      no-spaces : lengthOf (digitsOf 8 n) ≡ some (record { bytes = n; spaces = 0 })
+      no-spaces = padded-is-read 0 (digitsOf 8 n) n (omega (arith, length-digits 8 n)) (digits-read-back 8 n (omega arith))
 
--- the theorem: whatever the writer wrote reads back with exactly the bytes and the length that it was given
-pub written-reads-back : (head : List ℕ) (n room : ℕ) (w rest : List ℕ) → writeLabel head n room ≡ answer w
-    → readLabel (w ++ rest) ≡ answer (labelled head n)
+-- whatever the writer wrote reads back with exactly the bytes and the length that it was given
+written-reads-back : (head : List ℕ) (n room : ℕ) (w rest : List ℕ) → writeLabel head n room ≡ answer w
+    → readLabel (w ++ rest) ≡ answer (labelled head n 0)
 unfolding writeLabel bytes
 written-reads-back head n room w rest e =
     let (form, then-length) = passed 0 (isHead head) 2 _ w e in
@@ -53,13 +59,17 @@ written-reads-back head n room w rest e =
     ap (λ (v : List ℕ). readLabel (v ++ rest)) (sym (answer-injective is))
     ∙ reads-as-written head n rest (eqb-true _ _ twelve) good (leb-true _ _ fits)
 
--- the theorem for every label there is: a label that was read can be written, and what is written reads back as it
-pub every-label-reads-back : (s : List ℕ) (l : Label) → readLabel s ≡ answer l
-    → (w : List ℕ) × (writeLabel (take 12 s) (l .length) 20 ≡ answer w) × (readLabel w ≡ answer l)
-every-label-reads-back s l e =
+-- every label there is: a label that was read can be written, and what is written reads back as it, without its spaces
+every-label-reads-back : (s : List ℕ) (l : Label) (room : ℕ) (rest : List ℕ) → readLabel s ≡ answer l → 20 ≤ room
+    → (w : List ℕ) × (writeLabel (take 12 s) (l .length) room ≡ answer w) × (readLabel (w ++ rest) ≡ answer (withoutSpaces l))
+every-label-reads-back s l room rest e fits =
     let r = read-says s l e in
     let head = take 12 s in
     let twelve : length head ≡ 12 = length-take-le 12 s (omega (arith, r .long)) in
     let w = head ++ digitsOf 8 (l .length) in
-    let writes : writeLabel head (l .length) 20 ≡ answer w = written head (l .length) 20 (hold-together (eq-eqb _ _ twelve) (r .good)) (r .short) (omega arith) in
-    (w, writes, ap readLabel (sym (append-nil w)) ∙ written-reads-back head (l .length) 20 w [] writes ∙ ap answer (r .fields))
+    let writes : writeLabel head (l .length) room ≡ answer w = written head (l .length) room (hold-together (eq-eqb _ _ twelve) (r .good)) (r .short) fits in
+    let same : labelled head (l .length) 0 ≡ withoutSpaces l = ap withoutSpaces (r .fields) in
+    (w, writes, written-reads-back head (l .length) room w rest writes ∙ ap answer same)
+
+pub reads-back : ReadsBack
+reads-back = record { written = written-reads-back; again = every-label-reads-back }

@@ -5,7 +5,7 @@ use libc::STDOUT_FILENO;
 
 // Prints the listing of a file, or says why it cannot.
 fn print(file: &[u8]) {
-    let mut text = [0u8; 73728];
+    let mut text = [0u8; 81920];
     let size = listing::write_listing(file, &mut text);
     if !io::write_all(STDOUT_FILENO, &text[..size]) {
         os::fail(b"standard output");

@@ -17,6 +17,13 @@ holds-more {line} {r} {text} {piece} h g = record {
   text = g .text ∙ ap (λ (xs : List ℕ). xs ++ piece) (h .text);
 }
 
+pub grown-more : {line mid r : Line} {a b : List ℕ} → Grown line a mid → Grown mid b r → Grown line (a ++ b) r
+grown-more {line} {mid} {r} {a} {b} g h = record {
+  room = h .room;
+  size = omega (arith, h .size, g .size, length-append a b);
+  text = h .text ∙ ap (λ (xs : List ℕ). xs ++ b) (g .text) ∙ append-assoc (take (line .size) (line .bytes)) a b;
+}
+
 -- the bytes of a numeral as `&digits[first..]` lends them
 module _ (r : Numeral) (t : List ℕ) (s : Spells r t) where
   pub numeral-lent : take (20 - r .first) (drop (r .first) (r .digits)) ≡ t

@@ -19,7 +19,7 @@ use Rattle.sfdu.specs.Check.{rowsOfFile, counting, checkLabelled}
 use Rattle.sfdu.proofs.Checking.{accepted-says}
 use Rattle.text.specs.Decimal.{decimalText}
 use Rattle.text.proofs.Unpadded.{few-bytes}
-use Rattle.listing.specs.Line.{rowText}
+use Rattle.listing.specs.Line.{endText, rowText}
 use Rattle.listing.specs.Listing.{rowsListed, lineOf, linesFrom}
 use Rattle.listing.specs.Private.{leafText}
 use Rattle.listing.proofs.FewRows.{few-rows}
@@ -52,25 +52,28 @@ listed-is-small f rows e =
     let bound : length f ≤ 65536 = leb-true _ _ small in
     record { small = bound; no-larger = omega arith; scanned = scanned; few = omega (arith, bound, few-rows f rows scanned) }
 
--- at most four digits, five and five, and eight other characters
-pub line-is-short : (number place size : ℕ) (d : Four) → number < 10000 → place < 100000 → size < 100000 → length (rowText number place size d) ≤ 22
-line-is-short number place size d h k l =
-    let tail : List ℕ = 32 ∷ d .a ∷ d .b ∷ d .c ∷ d .d ∷ 10 ∷ [] in
+-- at most four digits, five, five and one, and nine other characters
+pub line-is-short : (number place size : ℕ) (d : Four) (spaces : ℕ) → number < 10000 → place < 100000 → size < 100000 → spaces < 10
+    → length (rowText number place size d spaces) ≤ 24
+line-is-short number place size d spaces h k l m =
+    let tail : List ℕ = endText d spaces in
     omega (
       arith,
       few-bytes 3 number h,
       few-bytes 4 place k,
       few-bytes 4 size l,
+      few-bytes 0 spaces m,
       length-append (decimalText number) (32 ∷ (decimalText place ++ (32 ∷ (decimalText size ++ tail)))),
       length-append (decimalText place) (32 ∷ (decimalText size ++ tail)),
       length-append (decimalText size) tail,
+      length-append (decimalText spaces) (10 ∷ []),
     )
 
 -- the line of the leaf that was found is the row's
 pub same-line : (f : List ℕ) (o : Outcome Leaf) (r : Row) (number : ℕ) → (found : FindsRow f o r) → leafText number (found .leaf) ≡ lineOf f number r
 same-line f o r number found =
     let place : found .leaf .place + 20 ≡ valueAt r = omega (arith, found .place) in
-    rw (place, found .size, found .description)
+    rw (place, found .size, found .description, found .spaces)
 
 -- the lines of rows set end to end
 pub lines-append : (f : List ℕ) (number : ℕ) (xs ys : List Row) → linesFrom f number (xs ++ ys) ≡ linesFrom f number xs ++ linesFrom f (number + length xs) ys

@@ -6,13 +6,14 @@ use native.Mathlib.Omega.{arith}
 use mathlib.Core.Path.{_≡_, refl, _∙_, sym, ap}
 use mathlib.Core.List.{List, [], _∷_}
 use lib.ListN.{length, getD, take, drop}
-use lib.Seq.{getD-take, getD-drop}
+use lib.Seq.{getD-take, getD-drop, drop-drop}
 use Rattle.answer.specs.Outcome.{Outcome, answer, andThen}
 use Rattle.answer.specs.Size.{largestFile}
 use Rattle.answer.specs.declared.Part.{Part}
 use Rattle.answer.proofs.Outcomes.{first-answered, answer-injective}
 use Rattle.label.specs.declared.Label.{Label}
 use Rattle.label.specs.Head.{fourAt}
+use Rattle.label.specs.Length.{fieldSize, spacesIn, spacesAt}
 use Rattle.label.specs.Label.{readLabel}
 use Rattle.label.proofs.Read.{read-says}
 use Rattle.walk.specs.declared.Leaf.{Leaf}
@@ -31,6 +32,8 @@ pub record FindsRow (f : List ℕ) (o : Outcome Leaf) (r : Row) : Type 0 where
   pub place : leaf .place ≡ r .label
   pub size : leaf .label .length ≡ r .size
   pub description : leaf .label .description ≡ fourAt f (r .label + 8)
+  pub spaces : leaf .label .spaces ≡ spacesAt f (r .label)
+  pub few : leaf .label .spaces ≤ 7
   pub inside : valueAt r + r .size ≤ length f
 
 -- the walk came to the first of these rows, and walking on from its end to the next, and so on
@@ -54,6 +57,11 @@ description-there f at l e = sym (ap (λ (m : Label). m .description) (read-says
           byte 11 (at + 8 + 3) (omega arith) (omega arith),
         )
 
+-- its spaces are those of bytes 12-19 there
+spaces-there : (f : List ℕ) (at : ℕ) (l : Label) → readLabel (drop at f) ≡ answer l → l .spaces ≡ spacesAt f at
+spaces-there f at l e =
+    read-says (drop at f) l e .spaces ∙ ap (λ (s : List ℕ). spacesIn (take fieldSize s)) (drop-drop 12 at f)
+
 -- where walks for k leaves and more find these rows, the walk for k leaves comes to the first, and so on
 module _ (f : List ℕ) (small : length f ≤ largestFile) where
   finds-from : (rs : List Row) (from k : ℕ) → walkFrom f from 0 ≡ walkAt f 0 k
@@ -64,13 +72,16 @@ module _ (f : List ℕ) (small : length f ≤ largestFile) where
       let place : x .place ≡ r .label = omega (arith, ap (λ (v : Part). v .place) (answer-injective value)) in
       let size : x .label .length ≡ r .size = ap (λ (v : Part). v .count) (answer-injective value) in
       let inside = found-ends-inside f 0 k x walked in
+      let read = a-leaf-is-found f 0 k x walked .reads in
       let end : valueAt r + r .size ≡ behind x = omega (arith, place, size) in (
         record {
           leaf = x;
           found = here ∙ walked;
           place = place;
           size = size;
-          description = description-there f (x .place) (x .label) (a-leaf-is-found f 0 k x walked .reads) ∙ ap (λ (p : ℕ). fourAt f (p + 8)) place;
+          description = description-there f (x .place) (x .label) read ∙ ap (λ (p : ℕ). fourAt f (p + 8)) place;
+          spaces = spaces-there f (x .place) (x .label) read ∙ ap (spacesAt f) place;
+          few = read-says (drop (x .place) f) (x .label) read .few;
           inside = omega (arith, end, inside);
         },
         finds-from rs (valueAt r + r .size) (k + 1)

@@ -8,6 +8,7 @@ use lib.ListN.{length, take, length-append, take-append-drop}
 use Rattle.answer.specs.Outcome.{answer, refuse}
 use Rattle.answer.proofs.Outcomes.{mapped-answer, answer-injective, answer-is-no-refusal}
 use Rattle.label.specs.Head.{fourAt}
+use Rattle.label.specs.Length.{spacesAt}
 use Rattle.walk.specs.declared.Leaf.{Leaf}
 use Rattle.sfdu.specs.Row.{Row, valueAt}
 use Rattle.sfdu.specs.Check.{counting}
@@ -26,7 +27,7 @@ pub record Underway (f old : List ℕ) (rows at : ℕ) (out : List ℕ) (end fro
   pub total : length (listed ++ rest) ≡ rows
   pub so-many : length listed ≡ number
   pub put : Puts at (linesFrom f 0 listed) old end out
-  pub short : end ≤ at + 22 * number
+  pub short : end ≤ at + 24 * number
   pub as-long : length out ≡ length old
   pub onward : Finds f (walkFrom f from 0) rest
 
@@ -105,21 +106,22 @@ module _ {f old : List ℕ} {rows at : ℕ} {out : List ℕ} {end from number : 
   pub ends-in-the-file : leaf .place + 20 + leaf .label .length ≤ 65536
   ends-in-the-file = omega (arith, end-is, finds .inside, rows-are-few .small)
 
-  pub line-has-22 : length (leafText number leaf) ≤ 22
-  line-has-22 =
+  pub line-has-24 : length (leafText number leaf) ≤ 24
+  line-has-24 =
       omega (
         arith,
         ap length line-is,
-        line-is-short number (valueAt (next .row)) (next .row .size) (fourAt f (next .row .label + 8))
-            (omega (arith, m .more, u .total, rows-are-few .few)) (omega (arith, finds .inside, rows-are-few .small)) (omega (arith, finds .inside, rows-are-few .small)),
+        line-is-short number (valueAt (next .row)) (next .row .size) (fourAt f (next .row .label + 8)) (spacesAt f (next .row .label))
+            (omega (arith, m .more, u .total, rows-are-few .few)) (omega (arith, finds .inside, rows-are-few .small)) (omega (arith, finds .inside, rows-are-few .small))
+            (omega (arith, finds .few, finds .spaces)),
       )
 
   module _ {line : Line} (holds : Holds line (leafText number leaf)) where
     pub line-is-whole : Room line 0
-    line-is-whole = record { room = holds .room; fits = omega (arith, holds .size, line-has-22) }
+    line-is-whole = record { room = holds .room; fits = omega (arith, holds .size, line-has-24) }
 
-    pub line-has-room : at ≤ 26 → length old ≡ 73728 → end + line .size ≤ length out
-    line-has-room h k = omega (arith, h, k, u .as-long, holds .size, u .short, line-has-22, m .more, u .total, rows-are-few .few)
+    pub line-has-room : at ≤ 26 → length old ≡ 81920 → end + line .size ≤ length out
+    line-has-room h k = omega (arith, h, k, u .as-long, holds .size, u .short, line-has-24, m .more, u .total, rows-are-few .few)
 
     pub text-was-put : {last : ℕ} {new : List ℕ} → Puts end (take (line .size) (line .bytes)) out last new → Puts end (leafText number leaf) out last new
     text-was-put {last} {new} p = subst (λ (t : List ℕ). Puts end t out last new) (holds .text) p
@@ -142,7 +144,7 @@ module _ {f old : List ℕ} {rows at : ℕ} {out : List ℕ} {end from number : 
         total = ap length (sym all) ∙ u .total;
         so-many = length-append (u .listed) (r ∷ []) ∙ omega (arith, u .so-many);
         put = subst (λ (t : List ℕ). Puts at t old last new) lines (puts-on h (u .put) p);
-        short = omega (arith, p .ends, u .short, line-has-22);
+        short = omega (arith, p .ends, u .short, line-has-24);
         as-long = same ∙ u .as-long;
         onward = subst (λ (k : ℕ). Finds f (walkFrom f k 0) (next .others)) (sym end-is) (next .then);
       }

@@ -7,6 +7,7 @@ use lib.ListN.{length, take}
 use lib.Dec.{leb}
 use Rattle.answer.specs.Outcome.{Outcome, answer, refuse, need}
 use Rattle.label.specs.Head.{fourAt}
+use Rattle.label.specs.Length.{spacesAt}
 use Rattle.sfdu.specs.Row.{Row, valueAt}
 use Rattle.sfdu.specs.Check.{rowsOfFile, counting}
 use Rattle.listing.specs.Line.{headText, rowText}
@@ -19,9 +20,9 @@ largestListed = 65536
 unfoldable pub rowsListed : List ℕ → Outcome (List Row)
 rowsListed f = need (leb (length f) largestListed) 14 (rowsOfFile f)
 
--- a row's line: the place of its value, its length, and its description from bytes 8-11 of its label
+-- a row's line: the place of its value, its length, and of its label the description, bytes 8-11, and the spaces
 abbrev pub lineOf : List ℕ → ℕ → Row → List ℕ
-lineOf f number r = rowText number (valueAt r) (r .size) (fourAt f (r .label + 8))
+lineOf f number r = rowText number (valueAt r) (r .size) (fourAt f (r .label + 8)) (spacesAt f (r .label))
 
 -- the lines of these rows in order, the first with this number
 abbrev pub linesFrom : List ℕ → ℕ → List Row → List ℕ

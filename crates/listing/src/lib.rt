@@ -1,8 +1,9 @@
-// The listing of a labelled file as one text. Renders document 01, "The list program":
-// `rows N` and a line for each row, or `refused NUMBER PLACE` alone. Reading the file and printing
+// The listing of a labelled file as one text. Renders document 01, "The list program", with the
+// last column of document 02, item 2: `rows N` and a line for each row, or `refused NUMBER PLACE` alone. Reading the file and printing
 // the text are left to the programs above.
 use answer::Count;
 use answer::Refusal;
+use label::Four;
 use walk::Leaf;
 use walk::Walked;
 ghost use mathlib.Core.Path.{_≡_};
@@ -15,20 +16,20 @@ ghost use Rattle.answer.specs.Filled.{Writes};
 ghost use Rattle.sfdu.specs.Check.{counting};
 ghost use Rattle.text.specs.Decimal.{decimalText};
 ghost use Rattle.label.specs.Head.{labelSize};
-ghost use Rattle.listing.specs.Line.{headText};
+ghost use Rattle.listing.specs.Line.{headText, endText};
 ghost use Rattle.listing.specs.Listing.{rowsListed, rowLines, listingOf, Front};
 ghost use Rattle.listing.specs.Private.{Holds, Room, Grown, leafText, Puts};
 
 // A line of text: the first `size` bytes. What stands behind them is left free.
 struct Line {
-    bytes: [u8; 72],
+    bytes: [u8; 96],
     size: usize,
 }
 
 fn nothing() -> Line
     ensures { λ r. ⌜ Holds r [] ⌝ }
 {
-    let bytes = [0u8; 72];
+    let bytes = [0u8; 96];
     Line {
         bytes: bytes,
         size: 0,
@@ -80,19 +81,28 @@ fn head_line(checked: Count) -> Line
     }
 }
 
-// A row's line: its number, the place of its value, its length and its description.
+// The line with a description and so many spaces told behind it, and ended.
+fn with_end(line: Line, description: Four, spaces: u8) -> Line
+    requires { ⌜ Room line 27 ⌝ }
+    ensures { λ r. ⌜ Grown line (endText description spaces) r ⌝ }
+{
+    let d = description;
+    let described = with(line, &[b' ', d.a, d.b, d.c, d.d, b' ']);
+    let told = with_number(described, answer::wide(spaces));
+    with(told, b"\n")
+}
+
+// A row's line: its number, the place of its value, its length, its description and its spaces.
 fn row_line(number: usize, leaf: Leaf) -> Line
     requires { ⌜ leaf .place + labelSize < 2 ^ 64 ⌝ }
     ensures { λ r. ⌜ Holds r (leafText number leaf) ⌝ }
 {
     let l = leaf.label;
-    let d = l.description;
     let place = leaf.place + label::LABEL;
     let numbered = with_number(nothing(), number);
     let placed = with_number(with(numbered, b" "), place);
     let sized = with_number(with(placed, b" "), l.length);
-    let description = [b' ', d.a, d.b, d.c, d.d, b'\n'];
-    with(sized, &description)
+    with_end(sized, l.description, l.spaces)
 }
 
 // The largest file that is listed, in bytes.
@@ -124,7 +134,7 @@ fn put(line: Line, out: &mut [u8], at: usize) -> usize
 // the next, and answers where they end.
 fn put_rows(file: &[u8], rows: usize, out: &mut [u8], at: usize) -> usize
     requires { ⌜ counting (rowsListed (now file)) ≡ answer rows ⌝ }
-    requires { ⌜ (at ≤ 26) × (length (now out) ≡ 73728) ⌝ }
+    requires { ⌜ (at ≤ 26) × (length (now out) ≡ 81920) ⌝ }
     ensures { λ r. ⌜ Puts at (rowLines (now (file .entry)) (rowsListed (now (file .entry)))) (now (out .entry)) r (now (out .exit)) ⌝ }
 {
     let mut end = at;
@@ -147,8 +157,8 @@ fn put_rows(file: &[u8], rows: usize, out: &mut [u8], at: usize) -> usize
 }
 
 // The listing of a file, written to the front of `out`; answers how many bytes it has. `out` holds
-// the longest there is: a file that is listed has at most 3,276 rows, and a row's line 22 bytes.
-pub fn write_listing(file: &[u8], out: &mut [u8; 73728]) -> usize
+// the longest there is: a file that is listed has at most 3,276 rows, and a row's line 24 bytes.
+pub fn write_listing(file: &[u8], out: &mut [u8; 81920]) -> usize
     ensures { λ r. ⌜ Writes (answer (listingOf (now (file .entry)))) (now (out .entry)) (answer r) (now (out .exit)) ⌝ }
     ensures { λ r. ⌜ Front r (now (out .exit)) ⌝ }
 {

@@ -1,7 +1,8 @@
 // Samples, printed and compared with a stored output: files of the folder data/ listed as the list
 // program lists them, among them records of source documents 001 (sections 3.2.1, 3.2.2 and 3.5.12)
-// and 004 (sections 4.4.146 to 4.4.149); the opening of that record of file 12; and document 01's
-// cases that are not proved, 6 (depths 8 and 9) and 9 (windows at the end of a waveform row).
+// and 004 (sections 4.4.146 to 4.4.149), and one whose lengths are padded with 0 to 7 spaces at three
+// depths; the opening of that record of file 12; and document 01's cases that are not proved, 6 (depths
+// 8 and 9) and 9 (windows at the end of a waveform row).
 use answer::Refusal;
 use answer::Show;
 use libc::STDOUT_FILENO;
@@ -30,7 +31,7 @@ fn print_refusal(why: Refusal, place: usize) {
 
 // Prints the listing of a file.
 fn print_listing(file: &[u8]) {
-    let mut text = [0u8; 73728];
+    let mut text = [0u8; 81920];
     let size = listing::write_listing(file, &mut text);
     print(&text[..size]);
 }
@@ -129,6 +130,7 @@ fn main() {
     list(b"file_12_record.sfdu");
     print_opening(b"file_12_record.sfdu");
     list(b"pass_file.sfdu");
+    list(b"padded_lengths.sfdu");
     list(b"bytes_65536.sfdu");
     list(b"bytes_65537.sfdu");
     print_window(2048, 0);

@@ -17,7 +17,7 @@ use Rattle.text.specs.Digits.{isDigit, given, decimal, digitsOf}
 some-injective : {a b : ℕ} → some a ≡ some b → a ≡ b
 some-injective e = cc
 
-none-is-not-some : {a : ℕ} → none ≡ some a → ⊥
+pub none-is-not-some : {a : ℕ} → none ≡ some a → ⊥
 none-is-not-some e = let z : _≡_ {A = ℕ} 0 1 = cc in omega arith
 
 pub a-digit-counts : (n b : ℕ) (bs : List ℕ) → 48 ≤ b → b ≤ 57 → decimal n (b ∷ bs) ≡ decimal (n * 10 + (b - 48)) bs

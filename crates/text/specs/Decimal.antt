@@ -1,5 +1,5 @@
--- The decimal text of a number, as the list program prints numbers (document 01, "The list program": `rows 2`, `0 40 3
--- DEMO`): its digits, most significant first, without leading zeros; 0 is `0`, which is 48.
+-- The decimal text of a number, as the list program prints numbers (document 02, item 2: `rows 2`, `0 40 3 DEMO 0`): its
+-- digits, most significant first, without leading zeros; 0 is `0`, which is 48.
 use Prim.Native.Nat.{ℕ, _+_, _/_, _%_, _<_}
 use mathlib.Core.Path.{_≡_}
 use mathlib.Core.Bool.{Bool, true, false}

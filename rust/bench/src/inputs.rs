@@ -22,8 +22,15 @@ impl Numbers {
     }
 }
 
+/// How a length is written into its eight bytes.
+pub type Field = fn(usize) -> String;
+
+pub const DIGITS: Field = |length| format!("{length:08}");
+
+pub const SPACES_AND_DIGITS: Field = |length| format!("{length:8}");
+
 /// A labelled file of rows of 0 to 63 bytes: ten to a group, ten groups to a group.
-pub fn labelled(numbers: &mut Numbers) -> Vec<u8> {
+pub fn labelled(numbers: &mut Numbers, field: Field) -> Vec<u8> {
     let mut file = Vec::new();
     let mut rows = 0;
     while rows < ROWS {
@@ -32,20 +39,34 @@ pub fn labelled(numbers: &mut Numbers) -> Vec<u8> {
             let mut inner = Vec::new();
             for _ in 0..10 {
                 let value = vec![b'v'; numbers.below(64)];
-                object(b"NJPL1I00DEMO", &value, &mut inner);
+                object(b"NJPL1I00DEMO", &value, field, &mut inner);
                 rows += 1;
             }
-            object(b"CCSD1Z000001", &inner, &mut outer);
+            object(b"CCSD1Z000001", &inner, field, &mut outer);
         }
-        object(b"CCSD1Z000001", &outer, &mut file);
+        object(b"CCSD1Z000001", &outer, field, &mut file);
     }
     file
 }
 
-fn object(head: &[u8; 12], value: &[u8], file: &mut Vec<u8>) {
-    file.extend(head);
-    file.extend(format!("{:08}", value.len()).bytes());
+fn object(head: &[u8; 12], value: &[u8], field: Field, file: &mut Vec<u8>) {
+    file.extend(label(head, value.len(), field));
     file.extend(value);
+}
+
+fn label(head: &[u8; 12], length: usize, field: Field) -> [u8; 20] {
+    let mut label = [0; 20];
+    label[..12].copy_from_slice(head);
+    label[12..].copy_from_slice(field(length).as_bytes());
+    label
+}
+
+/// Labels of values of 0 to 63 bytes.
+pub fn labels(numbers: &mut Numbers, count: usize, field: Field) -> Vec<[u8; 20]> {
+    let lengths = (0..count).map(|_| numbers.below(64));
+    lengths
+        .map(|length| label(b"NJPL1I00DEMO", length, field))
+        .collect()
 }
 
 pub fn waveform(numbers: &mut Numbers) -> Vec<u8> {

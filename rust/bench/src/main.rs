@@ -5,7 +5,7 @@ mod inputs;
 mod plain;
 
 use crestulbino::{Kind, Window};
-use inputs::{Numbers, ROWS, WAVEFORM_ROWS};
+use inputs::{Numbers, DIGITS, ROWS, SPACES_AND_DIGITS, WAVEFORM_ROWS};
 use std::hint::black_box;
 use std::time::{Duration, Instant};
 
@@ -23,9 +23,12 @@ const EMPTY: Window = Window::new(0, 0);
 
 fn main() {
     let mut numbers = Numbers::new();
-    let file = inputs::labelled(&mut numbers);
+    let file = inputs::labelled(&mut numbers, DIGITS);
     let waveform = inputs::waveform(&mut numbers);
     let times = inputs::vax_numbers(&mut numbers, NUMBERS);
+    let padded = inputs::labelled(&mut Numbers::new(), SPACES_AND_DIGITS);
+    let [labels, padded_labels] = [DIGITS, SPACES_AND_DIGITS]
+        .map(|field| inputs::labels(&mut Numbers::new(), NUMBERS, field));
     let rows = |of: usize| -> Vec<usize> {
         let mut numbers = Numbers::new();
         (0..JUMPS).map(|_| numbers.below(of)).collect()
@@ -39,15 +42,14 @@ fn main() {
     labelled_calls(&file, &rows(ROWS));
     waveform_calls(&waveform, &rows(WAVEFORM_ROWS));
     number_calls(&times, &waveform[..NUMBERS]);
+    read_labels("read_label, a label", &labels);
+    read_labels("read_label padded, a label", &padded_labels);
+    check_labelled("check padded, a row", &padded);
+    row_after_row("row_from padded row after row, a row", &padded);
 }
 
 fn labelled_calls(file: &[u8], rows: &[usize]) {
-    compare(
-        "check labelled, a row",
-        ROWS,
-        || crestulbino::check(Kind::Labelled, black_box(file)).unwrap_or(0),
-        || plain::check(black_box(file)).unwrap_or(0),
-    );
+    check_labelled("check labelled, a row", file);
     let (mut one, mut other) = (vec![1; ROWS], vec![1; ROWS]);
     compare(
         "build_index, a row",
@@ -77,8 +79,21 @@ fn labelled_calls(file: &[u8], rows: &[usize]) {
             })
         },
     );
+    row_after_row("row_from row after row, a row", file);
+}
+
+fn check_labelled(name: &str, file: &[u8]) {
     compare(
-        "row_from row after row, a row",
+        name,
+        ROWS,
+        || crestulbino::check(Kind::Labelled, black_box(file)).unwrap_or(0),
+        || plain::check(black_box(file)).unwrap_or(0),
+    );
+}
+
+fn row_after_row(name: &str, file: &[u8]) {
+    compare(
+        name,
         ROWS,
         || {
             let (mut from, mut rows) = (0, 0);
@@ -95,6 +110,31 @@ fn labelled_calls(file: &[u8], rows: &[usize]) {
                 rows += 1;
             }
             rows
+        },
+    );
+}
+
+/// All parts of each label go into its answer.
+fn read_labels(name: &str, labels: &[[u8; 20]]) {
+    let word = |four: [u8; 4]| u32::from_le_bytes(four) as usize;
+    compare(
+        name,
+        REPEATS * labels.len(),
+        || {
+            repeated(labels, |label| {
+                crestulbino::read_label(label).map_or(0, |label| {
+                    let head = word(label.agency) + word(label.description);
+                    head + usize::from(label.class) + label.length + usize::from(label.spaces)
+                })
+            })
+        },
+        || {
+            repeated(labels, |label| {
+                plain::read_label(label).map_or(0, |label| {
+                    let head = word(label.agency) + word(label.description);
+                    head + usize::from(label.class) + label.length + label.spaces
+                })
+            })
         },
     );
 }

@@ -17,10 +17,44 @@ const RECORD: usize = 2_080;
 const PREFIX: usize = 32;
 const SAMPLES: usize = 2_048;
 
+/// The variable parts of a label.
+pub struct Label {
+    pub agency: [u8; 4],
+    pub class: u8,
+    pub description: [u8; 4],
+    pub length: usize,
+    pub spaces: usize,
+}
+
+/// Reads the label at the front of the bytes.
+#[inline(never)]
+pub fn read_label(bytes: &[u8]) -> Result<Label, Fault> {
+    let read = || {
+        let (head, field) = head_and_field(bytes)?;
+        let (spaces, length) = spaces_and_length(field)?;
+        Ok(Label {
+            agency: [head[0], head[1], head[2], head[3]],
+            class: head[5],
+            description: [head[8], head[9], head[10], head[11]],
+            length,
+            spaces,
+        })
+    };
+    read().map_err(|number| (number, 0))
+}
+
 /// Whether the label at the front of the bytes opens a group, and its length.
 fn label(bytes: &[u8]) -> Result<(bool, usize), u8> {
+    let (head, field) = head_and_field(bytes)?;
+    let (_, length) = spaces_and_length(field)?;
+    Ok((head[5] == b'Z', length))
+}
+
+/// The two parts of the label at the front of the bytes, of which the first is good.
+#[inline(always)]
+fn head_and_field(bytes: &[u8]) -> Result<(&[u8; 12], &[u8; 8]), u8> {
     let label: &[u8; LABEL] = bytes.first_chunk().ok_or(1)?;
-    let (head, digits) = label.split_at(12);
+    let (head, field) = label.split_first_chunk().ok_or(1)?;
     let is_head = matches!(&head[..4], b"NJPL" | b"CCSD")
         && head[4] == b'1'
         && head[5].is_ascii_uppercase()
@@ -31,15 +65,34 @@ fn label(bytes: &[u8]) -> Result<(bool, usize), u8> {
     if !is_head {
         return Err(2);
     }
-    let mut length = 0;
+    Ok((head, field.first_chunk().ok_or(1)?))
+}
+
+/// How many spaces a length field begins with, and the number behind them.
+#[inline(always)]
+fn spaces_and_length(field: &[u8; 8]) -> Result<(usize, usize), u8> {
+    if field[0] != b' ' {
+        // Eight digits, which the compiler counts on.
+        return Ok((0, number(field)?));
+    }
+    let spaces = field.iter().take_while(|&&byte| byte == b' ').count();
+    if spaces == field.len() {
+        return Err(3);
+    }
+    Ok((spaces, number(&field[spaces..])?))
+}
+
+#[inline(always)]
+fn number(digits: &[u8]) -> Result<usize, u8> {
+    let mut number = 0;
     for byte in digits {
         let digit = byte.wrapping_sub(b'0');
         if digit > 9 {
             return Err(3);
         }
-        length = 10 * length + usize::from(digit);
+        number = 10 * number + usize::from(digit);
     }
-    Ok((head[5] == b'Z', length))
+    Ok(number)
 }
 
 fn check_size(file: &[u8]) -> Result<(), Fault> {

@@ -19,11 +19,12 @@ pub fn answer(library: &Library, case: &Case) -> String {
     match case {
         Case::ReadLabel { bytes } => line((library.read_label)(bytes).map(|label| {
             format!(
-                "{} {} {} {}",
+                "{} {} {} {} {}",
                 Bytes(&label.agency),
                 Bytes(&[label.class]),
                 Bytes(&label.description),
-                label.length
+                label.length,
+                label.spaces
             )
         })),
         Case::WriteLabel {

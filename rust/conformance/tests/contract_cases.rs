@@ -54,7 +54,10 @@ fn case_3_the_demonstration_file() {
     expect(&format!("build_index {file} 7,8"), "ok 1 2 20,8");
     expect(&format!("check_index {file} 20"), "ok");
     let label = hex(&DEMO[20..40]);
-    expect(&format!("read_label {label}"), "ok 4e4a504c 49 44454d4f 3");
+    expect(
+        &format!("read_label {label}"),
+        "ok 4e4a504c 49 44454d4f 3 0",
+    );
 }
 
 #[test]

@@ -1,5 +1,6 @@
-//! Every single-byte damage of nested files: both implementations say the same of the check, of
-//! each row read, of the index, of each jump and of going on from each label.
+//! Every single-byte damage of nested files, with and without spaces in their lengths: both
+//! implementations say the same of the check, of each row read, of the index, of each jump and of
+//! going on from each label.
 
 use conformance::library::{INDEPENDENT, PROVED};
 use crestulbino::{Kind, Window};
@@ -27,8 +28,25 @@ fn two_entries_file() -> Vec<u8> {
     file.concat().into_bytes()
 }
 
+/// Where labels begin, in values too.
+fn labels(file: &[u8]) -> Vec<usize> {
+    let begins = |place: &usize| matches!(&file[*place..].get(..4), Some(b"NJPL" | b"CCSD"));
+    (0..file.len()).filter(begins).collect()
+}
+
+/// The same file with spaces for the zeros in front of its lengths.
+fn padded(file: &[u8]) -> Vec<u8> {
+    let mut padded = file.to_vec();
+    for place in labels(file) {
+        let front = &mut padded[place + 12..place + 19];
+        let zeros = front.iter().take_while(|&&byte| byte == b'0').count();
+        front[..zeros].fill(b' ');
+    }
+    padded
+}
+
 /// The answers of both implementations to the same calls are the same.
-fn assert_same(file: &[u8], rows: usize, index: &[u32], labels: &[usize]) {
+fn assert_same(file: &[u8], rows: usize, index: &[u32], places: &[usize]) {
     let (one, other) = (INDEPENDENT, PROVED);
     let checked = (one.check)(Kind::Labelled, file);
     assert_eq!(checked, (other.check)(Kind::Labelled, file));
@@ -56,7 +74,7 @@ fn assert_same(file: &[u8], rows: usize, index: &[u32], labels: &[usize]) {
             );
         }
     }
-    for &from in labels {
+    for &from in places {
         assert_eq!(
             (one.row_from)(Kind::Labelled, file, from),
             (other.row_from)(Kind::Labelled, file, from)
@@ -70,14 +88,14 @@ fn damage(file: &[u8], rows: usize, values: impl Iterator<Item = u8> + Clone) ->
     let built = (INDEPENDENT.build_index)(file, &mut list).unwrap();
     assert_eq!(built.rows, rows);
     let index = &list[..built.entries];
-    let starts = |place: &usize| matches!(&file[*place..].get(..4), Some(b"NJPL" | b"CCSD"));
-    let labels: Vec<usize> = (0..file.len()).filter(starts).chain([file.len()]).collect();
+    let mut places = labels(file);
+    places.push(file.len());
     let mut accepted = 0;
     let mut damaged = file.to_vec();
     for (place, &good) in file.iter().enumerate() {
         for value in values.clone() {
             damaged[place] = value;
-            assert_same(&damaged, rows, index, &labels);
+            assert_same(&damaged, rows, index, &places);
             accepted += usize::from((PROVED.check)(Kind::Labelled, &damaged).is_ok());
         }
         damaged[place] = good;
@@ -88,19 +106,23 @@ fn damage(file: &[u8], rows: usize, values: impl Iterator<Item = u8> + Clone) ->
 #[test]
 fn every_value_in_every_byte_of_a_small_file() {
     let file = small_file();
-    let accepted = damage(&file, 6, 0..=255);
-    let tried = 256 * file.len();
-    assert!(
-        (file.len()..tried).contains(&accepted),
-        "{accepted} of {tried}"
-    );
+    for file in [padded(&file), file] {
+        let accepted = damage(&file, 6, 0..=255);
+        let tried = 256 * file.len();
+        assert!(
+            (file.len()..tried).contains(&accepted),
+            "{accepted} of {tried}"
+        );
+    }
 }
 
 #[test]
 fn telling_values_in_every_byte_of_a_file_with_two_entries() {
     let file = two_entries_file();
-    let values = b"\0 /01289:@ACNPYZ[az\x7f\x80\xb0\xff";
-    let accepted = damage(&file, 18, values.iter().copied());
-    let tried = values.len() * file.len();
-    assert!((1..tried).contains(&accepted), "{accepted} of {tried}");
+    let values = b"\0\t /01289:@ACNPYZ[az\x7f\x80\xb0\xff";
+    for file in [padded(&file), file] {
+        let accepted = damage(&file, 18, values.iter().copied());
+        let tried = values.len() * file.len();
+        assert!((1..tried).contains(&accepted), "{accepted} of {tried}");
+    }
 }

@@ -32,3 +32,11 @@ fn stored_answers_of_row_from() {
         include_str!("data/row_from.answers"),
     );
 }
+
+#[test]
+fn stored_answers_of_lengths_behind_spaces() {
+    same(
+        include_str!("data/spaces.cases"),
+        include_str!("data/spaces.answers"),
+    );
+}

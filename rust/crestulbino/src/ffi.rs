@@ -26,7 +26,7 @@ pub(crate) struct Outcome {
 
 #[rustfmt::skip] // A line for a declaration, as in the header.
 unsafe extern "C" {
-    fn crest_read_label(bytes: *const u8, bytes_len: usize, agency: *mut [u8; 4], class_: *mut u8, description: *mut [u8; 4], length: *mut u64) -> Outcome;
+    fn crest_read_label(bytes: *const u8, bytes_len: usize, agency: *mut [u8; 4], class_: *mut u8, description: *mut [u8; 4], length: *mut u64, spaces: *mut u8) -> Outcome;
     fn crest_write_label(head: *const u8, head_len: usize, length: u64, out: *mut u8, out_len: usize, written: *mut u64) -> Outcome;
     fn crest_check_labelled(file: *const u8, file_len: usize, rows: *mut u64) -> Outcome;
     fn crest_check_waveform(file: *const u8, file_len: usize, rows: *mut u64) -> Outcome;
@@ -54,8 +54,9 @@ pub(crate) fn read_label(
     class: &mut u8,
     description: &mut [u8; 4],
     length: &mut u64,
+    spaces: &mut u8,
 ) -> Outcome {
-    // SAFETY: `bytes` is a shared slice with its length; `agency`, `class`, `description` and `length` are lent alone.
+    // SAFETY: `bytes` is a shared slice with its length; `agency`, `class`, `description`, `length` and `spaces` are lent alone.
     unsafe {
         crest_read_label(
             bytes.as_ptr(),
@@ -64,6 +65,7 @@ pub(crate) fn read_label(
             class,
             description,
             length,
+            spaces,
         )
     }
 }
@@ -280,7 +282,7 @@ mod tests {
     fn an_empty_slice_may_be_a_null_pointer() {
         const ANSWERED: Outcome = refused(0);
         let (mut one, mut two) = (7, 7);
-        let (mut agency, mut class, mut description) = ([7; 4], 7, [7; 4]);
+        let (mut agency, mut class, mut description, mut spaces) = ([7; 4], 7, [7; 4], 7);
         let (mut start, mut stop) = (7.0, 7.0);
         let head = b"NJPL1I00DEMO";
         // SAFETY: each pointer with a length is null with length 0, or that of `head` with its
@@ -293,6 +295,7 @@ mod tests {
                 &mut class,
                 &mut description,
                 &mut one,
+                &mut spaces,
             );
             assert_eq!(label, refused(1));
             let written = crest_write_label(null(), 0, 0, null_mut(), 0, &mut one);
@@ -320,7 +323,7 @@ mod tests {
             let loaded = crest_load_kept(null(), 0, null_mut(), 0, &mut one);
             assert_eq!(loaded, refused(13));
             assert_eq!((one, two, start, stop), (7, 7, 7.0, 7.0));
-            assert_eq!((agency, class, description), ([7; 4], 7, [7; 4]));
+            assert_eq!((agency, class, description, spaces), ([7; 4], 7, [7; 4], 7));
 
             for check in [crest_check_labelled, crest_check_waveform] {
                 one = 7;

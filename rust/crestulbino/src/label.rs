@@ -17,6 +17,8 @@ pub struct Label {
     pub description: [u8; 4],
     /// How many bytes stand behind the label, as it says.
     pub length: usize,
+    /// How many spaces stand in front of the length's digits, 0 to 7.
+    pub spaces: u8,
 }
 
 /// Reads the label at the front of `bytes`. What follows it is ignored.
@@ -26,18 +28,23 @@ pub struct Label {
 /// ```
 /// let label = crestulbino::read_label(b"NJPL1I00DEMO00000003abc")?;
 /// assert_eq!((&label.agency, label.class, &label.description), (b"NJPL", b'I', b"DEMO"));
-/// assert_eq!(label.length, 3);
+/// assert_eq!((label.length, label.spaces), (3, 0));
+///
+/// let padded = crestulbino::read_label(b"NJPL1I00DEMO       3abc")?;
+/// assert_eq!((padded.length, padded.spaces), (3, 7));
 /// # Ok::<(), crestulbino::Refused>(())
 /// ```
 #[inline]
 pub fn read_label(bytes: &[u8]) -> Result<Label, Refused> {
-    let (mut agency, mut class, mut description, mut length) = ([0; 4], 0, [0; 4], 0);
+    let (mut agency, mut class, mut description) = ([0; 4], 0, [0; 4]);
+    let (mut length, mut spaces) = (0, 0);
     ffi::read_label(
         bytes,
         &mut agency,
         &mut class,
         &mut description,
         &mut length,
+        &mut spaces,
     )
     .result()?;
     Ok(Label {
@@ -45,11 +52,12 @@ pub fn read_label(bytes: &[u8]) -> Result<Label, Refused> {
         class,
         description,
         length: length as usize,
+        spaces,
     })
 }
 
-/// Writes a label to the first 20 bytes of `out`: the twelve bytes of `head`, and the length of
-/// what is to stand behind it. Answers how many bytes were written, which is 20.
+/// Writes a label to the first 20 bytes of `out`: the twelve bytes of `head`, and in eight digits
+/// the length of what is to stand behind it. Answers how many bytes were written, which is 20.
 ///
 /// Refuses: `BadLabel` (also where `head` has not twelve bytes), `TooLong`, `Small`.
 ///

@@ -196,7 +196,15 @@ fn walk_faults() -> Vec<(Vec<u8>, Outcome)> {
             refused(3, 20),
         ),
         (
+            b"CCSD1Z000001      20NJPL1I00DEMO        ".to_vec(),
+            refused(3, 20),
+        ),
+        (
             b"CCSD1Z00000100000020NJPL1I00DEMO00000001".to_vec(),
+            refused(4, 20),
+        ),
+        (
+            b"CCSD1Z000001      20NJPL1I00DEMO       1".to_vec(),
             refused(4, 20),
         ),
     ]
@@ -205,27 +213,34 @@ fn walk_faults() -> Vec<(Vec<u8>, Outcome)> {
 #[test]
 fn read_label() {
     for (bytes, expected) in [
-        (&b"NJPL1I00DEMO00000003abc"[..], ANSWERED),
-        (b"NJPL1I00DEMO0000000", refused(1, 0)),
-        (b"NJPL1i00DEMO00000003", refused(2, 0)),
-        (b"NJPL1I00DEMO0000000x", refused(3, 0)),
+        (&b"NJPL1I00DEMO00000003abc"[..], Ok(0)),
+        (b"NJPL1I00DEMO   00003", Ok(3)),
+        (b"NJPL1I00DEMO       3abc", Ok(7)),
+        (b"NJPL1I00DEMO0000000", Err(refused(1, 0))),
+        (b"NJPL1i00DEMO00000003", Err(refused(2, 0))),
+        (b"NJPL1I00DEMO0000000x", Err(refused(3, 0))),
+        (b"NJPL1I00DEMO        ", Err(refused(3, 0))),
+        (b"NJPL1I00DEMO  00003 ", Err(refused(3, 0))),
     ] {
         for salt in SALTS {
             let (mut agency, mut class) = (Lent::new(4, salt), Lent::new(1, salt));
             let (mut description, mut length) = (Lent::new(4, salt), Lent::new(1, salt));
+            let mut spaces = Lent::new(1, salt);
             let outcome = ffi::read_label(
                 bytes,
                 agency.four(),
                 class.number(),
                 description.four(),
                 length.number(),
+                spaces.number(),
             );
-            assert_eq!(outcome, expected);
-            let answered = usize::from(outcome == ANSWERED);
+            assert_eq!(outcome, expected.err().unwrap_or(ANSWERED));
+            let answered = usize::from(expected.is_ok());
             agency.assert_front(&b"NJPL"[..4 * answered]);
             class.assert_front(&b"I"[..answered]);
             description.assert_front(&b"DEMO"[..4 * answered]);
             length.assert_front(&[3][..answered]);
+            spaces.assert_front(expected.ok().as_slice());
         }
     }
 }

@@ -13,7 +13,7 @@ pub enum Refusal {
     Short = 1,
     /// Bytes 0 to 11 are not those of a label.
     BadLabel = 2,
-    /// A byte of the label's length is no digit.
+    /// The label's length field is not spaces followed by digits.
     BadLength = 3,
     /// The value ends beyond its enclosing value or the file.
     Overrun = 4,
@@ -106,7 +106,10 @@ impl Refusal {
         match self {
             Refusal::Short => ("SHORT", "too few bytes remain for a label or a number"),
             Refusal::BadLabel => ("BADLABEL", "bytes 0 to 11 are not those of a label"),
-            Refusal::BadLength => ("BADLENGTH", "a byte of the label's length is no digit"),
+            Refusal::BadLength => (
+                "BADLENGTH",
+                "the label's length field is not spaces followed by digits",
+            ),
             Refusal::Overrun => (
                 "OVERRUN",
                 "the value ends beyond its enclosing value or the file",

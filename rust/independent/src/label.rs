@@ -1,5 +1,5 @@
-//! The 20-byte label in front of every object: twelve bytes of type and
-//! eight digits that count the bytes behind them.
+//! The 20-byte label in front of every object: twelve bytes of type, and eight
+//! that count the bytes behind them, in digits that may have spaces in front.
 
 use crate::refusal::{Reason, Refusal};
 
@@ -21,6 +21,8 @@ pub struct Label {
     pub class: u8,
     pub description: [u8; 4],
     pub length: u64,
+    /// How many spaces stand in front of the length's digits.
+    pub spaces: u8,
 }
 
 impl Label {
@@ -41,7 +43,7 @@ pub fn read(bytes: &[u8]) -> Result<Label, Refusal> {
 }
 
 /// Writes a label of the given type bytes and length to the front of `buffer`.
-/// Answers how many bytes were written.
+/// Answers how many bytes were written. The length is written in digits only.
 pub fn write(head: &[u8], length: u64, buffer: &mut [u8]) -> Result<u64, Refusal> {
     if !is_type(head) {
         return Err(Reason::BadLabel.at_start());
@@ -60,17 +62,27 @@ pub fn write(head: &[u8], length: u64, buffer: &mut [u8]) -> Result<u64, Refusal
 
 fn parse(bytes: &[u8]) -> Result<Label, Reason> {
     let label = bytes.get(..LABEL_BYTES as usize).ok_or(Reason::Short)?;
-    let (head, digits) = label.split_at(TYPE_BYTES);
+    let (head, field) = label.split_at(TYPE_BYTES);
     if !is_type(head) {
         return Err(Reason::BadLabel);
     }
-    let length = decimal(digits).ok_or(Reason::BadLength)?;
+    let (spaces, length) = spaces_and_length(field).ok_or(Reason::BadLength)?;
     Ok(Label {
         agency: [head[0], head[1], head[2], head[3]],
         class: head[5],
         description: [head[8], head[9], head[10], head[11]],
         length,
+        spaces,
     })
+}
+
+/// Divides a length field at its first byte that is no space: how many spaces
+/// stand before it, and the number that the rest is. Nothing if there is no
+/// such byte, or if the rest is not of digits.
+fn spaces_and_length(field: &[u8]) -> Option<(u8, u64)> {
+    let spaces = field.iter().position(|&byte| byte != b' ')?;
+    let length = decimal(&field[spaces..])?;
+    Some((spaces as u8, length))
 }
 
 /// Whether these are the twelve bytes of an allowed label type.
@@ -85,8 +97,8 @@ fn is_type(head: &[u8]) -> bool {
             .all(|byte| byte.is_ascii_uppercase() || byte.is_ascii_digit())
 }
 
-/// The number written in a field of ASCII digits, or nothing if a byte of it
-/// is no digit.
+/// The number written in ASCII digits, or nothing if one of the bytes is no
+/// digit.
 fn decimal(digits: &[u8]) -> Option<u64> {
     digits.iter().try_fold(0, |number, byte| {
         byte.is_ascii_digit()
@@ -113,6 +125,7 @@ mod tests {
             class: b'I',
             description: *b"DEMO",
             length: 3,
+            spaces: 0,
         };
         assert_eq!(read(DEMO), Ok(expected));
         assert_eq!(read(b"NJPL1I00DEMO00000003abc and more"), Ok(expected));
@@ -120,6 +133,11 @@ mod tests {
         assert_eq!(widest.length, LONGEST_VALUE);
         assert!(widest.is_group());
         assert!(!expected.is_group());
+        let padded = Label {
+            spaces: 7,
+            ..expected
+        };
+        assert_eq!(read(b"NJPL1I00DEMO       3abc"), Ok(padded));
     }
 
     #[test]
@@ -142,6 +160,7 @@ mod tests {
                     5 => LETTERS.contains(&byte),
                     6 | 7 => byte == b'0',
                     8..=11 => LETTERS.contains(&byte) || DIGITS.contains(&byte),
+                    12 => DIGITS.contains(&byte) || byte == b' ',
                     _ => DIGITS.contains(&byte),
                 };
                 let reason = if position < 12 {
@@ -160,12 +179,106 @@ mod tests {
         }
     }
 
+    /// Spaces and length of a label of class I with this length field.
+    fn read_field(field: &[u8]) -> Result<(u8, u64), Refusal> {
+        let label = read(&[b"NJPL1I00DEMO", field].concat())?;
+        Ok((label.spaces, label.length))
+    }
+
+    /// A field of so many spaces, and as many of these digits as there is room for.
+    fn padded(spaces: usize, digits: &[u8; 8]) -> [u8; 8] {
+        let mut field = *digits;
+        field[..spaces].fill(b' ');
+        field
+    }
+
+    const BAD_LENGTH: Refusal = Refusal {
+        reason: Reason::BadLength,
+        place: 0,
+    };
+
+    #[test]
+    fn each_number_of_spaces() {
+        let lengths = [12_345_678, 2_345_678, 345_678, 45_678, 5_678, 678, 78, 8];
+        for (spaces, length) in lengths.into_iter().enumerate() {
+            let field = padded(spaces, b"12345678");
+            assert_eq!(read_field(&field), Ok((spaces as u8, length)));
+            let zeros = padded(spaces, b"00000000");
+            assert_eq!(read_field(&zeros), Ok((spaces as u8, 0)));
+        }
+    }
+
+    #[test]
+    fn spaces_stand_in_front_of_digits_only() {
+        for field in [
+            b"        ",
+            b"0000000 ",
+            b"      3 ",
+            b"3       ",
+            b"0 000003",
+            b"   0 003",
+            b"\t0000003",
+            b"      \t3",
+            b"\x000000003",
+        ] {
+            assert_eq!(read_field(field), Err(BAD_LENGTH), "{field:?}");
+        }
+    }
+
+    /// Each byte of the field a space or a digit: spaces first, and one digit at least.
+    #[test]
+    fn every_pattern_of_spaces_and_digits() {
+        let mut accepted = 0;
+        for pattern in 0..=255u8 {
+            let mut field = *b"12345678";
+            for (at, byte) in field.iter_mut().enumerate() {
+                if pattern & (0x80 >> at) != 0 {
+                    *byte = b' ';
+                }
+            }
+            let spaces = pattern.leading_ones();
+            let text = std::str::from_utf8(&field).unwrap();
+            let expected = if pattern.count_ones() == spaces && spaces < 8 {
+                accepted += 1;
+                Ok((spaces as u8, text.trim_start().parse().unwrap()))
+            } else {
+                Err(BAD_LENGTH)
+            };
+            assert_eq!(read_field(&field), expected, "{text:?}");
+        }
+        assert_eq!(accepted, 8);
+    }
+
+    /// Tries every byte value at every position of a field with so many spaces. A digit may stand
+    /// behind the spaces or take the place of the last one, a space in front of a digit that is
+    /// not the last.
+    #[test]
+    fn one_byte_of_a_padded_field_at_a_time() {
+        for spaces in 0..8 {
+            for position in 0..8 {
+                for byte in 0..=255u8 {
+                    let mut field = padded(spaces, b"00000000");
+                    field[position] = byte;
+                    let found = match byte {
+                        b'0'..=b'9' if position >= spaces => Some(spaces),
+                        b'0'..=b'9' if position + 1 == spaces => Some(position),
+                        b' ' if position < spaces => Some(spaces),
+                        b' ' if position == spaces && spaces < 7 => Some(spaces + 1),
+                        _ => None,
+                    };
+                    let found = found.map(|spaces| spaces as u8).ok_or(BAD_LENGTH);
+                    let read = read_field(&field).map(|(spaces, _)| spaces);
+                    assert_eq!(read, found, "{field:?}");
+                }
+            }
+        }
+    }
+
     #[test]
     fn a_bad_type_comes_before_a_bad_length() {
-        assert_eq!(
-            read(b"NJPL2I00DEMO0000000x"),
-            Err(Reason::BadLabel.at_start())
-        );
+        for bytes in [b"NJPL2I00DEMO0000000x", b"NJPL2I00DEMO        "] {
+            assert_eq!(read(bytes), Err(Reason::BadLabel.at_start()));
+        }
     }
 
     #[test]
@@ -184,6 +297,16 @@ mod tests {
         let mut exact = [0; 20];
         assert_eq!(write(b"CCSD1Z000001", LONGEST_VALUE, &mut exact), Ok(20));
         assert_eq!(&exact, b"CCSD1Z00000199999999");
+    }
+
+    #[test]
+    fn the_writer_writes_no_spaces() {
+        for length in [0, 3, 10, 9_999_999, LONGEST_VALUE] {
+            let mut buffer = [b' '; 20];
+            assert_eq!(write(b"NJPL1I00DEMO", length, &mut buffer), Ok(20));
+            let label = read(&buffer).unwrap();
+            assert_eq!((label.spaces, label.length), (0, length));
+        }
     }
 
     #[test]

@@ -216,6 +216,38 @@ mod tests {
         assert_eq!(check(&file), Err(Reason::Deep.at(160)));
     }
 
+    #[test]
+    fn lengths_behind_spaces() {
+        let file = b"CCSD1Z000001      43NJPL1I00DEMO       3abcNJPL1I00DEMO   00000";
+        assert_eq!(check(file), Ok(2));
+        let part = read_row(file, 0, Window::new(1, 2)).unwrap();
+        assert_eq!((part.place, part.bytes), (41, &b"bc"[..]));
+        let spaces: Vec<u8> = leaves(file)
+            .unwrap()
+            .map(|leaf| leaf.unwrap().label.spaces)
+            .collect();
+        assert_eq!(spaces, [7, 3]);
+    }
+
+    #[test]
+    fn faults_of_lengths_behind_spaces() {
+        for (file, refusal) in [
+            (&b"NJPL1I00DEMO       4abc"[..], Reason::Overrun.at(0)),
+            (b"CCSD1Z000001       1", Reason::Overrun.at(0)),
+            (b"CCSD1Z000001        ", Reason::BadLength.at(0)),
+            (
+                b"CCSD1Z000001      20NJPL1I00DEMO       1x",
+                Reason::Overrun.at(20),
+            ),
+            (
+                b"CCSD1Z000001      20NJPL1I00DEMO      0 ",
+                Reason::BadLength.at(20),
+            ),
+        ] {
+            assert_eq!(check(file), Err(refusal));
+        }
+    }
+
     fn from(file: &[u8], place: u64) -> Result<(u64, &[u8]), Refusal> {
         row_from(file, place).map(|part| (part.place, part.bytes))
     }
@@ -255,6 +287,15 @@ mod tests {
         assert_eq!(from(file, 0), Ok((60, &b"abc"[..])));
         let deep = b"CCSD1Z00000100000000".repeat(12);
         assert_eq!(from(&deep, 0), Err(Reason::NoRow.at_start()));
+    }
+
+    #[test]
+    fn going_on_reads_lengths_behind_spaces() {
+        let file = b"CCSD1Z000001 9999999NJPL1I00DEMO       3abcCCSD1Z000001        ";
+        assert_eq!(from(file, 0), Ok((40, &b"abc"[..])));
+        assert_eq!(from(file, 43), Err(Reason::BadLength.at(43)));
+        let long = b"CCSD1Z000001       0NJPL1I00DEMO       4abc";
+        assert_eq!(from(long, 0), Err(Reason::Overrun.at(20)));
     }
 
     #[test]

@@ -158,6 +158,17 @@ mod tests {
     }
 
     #[test]
+    fn the_walk_reads_lengths_behind_spaces() {
+        let file = b"CCSD1Z000001 9999999NJPL1I00DEMO       2xyNJPL1I00DEMO  000003abc";
+        let part = jump(file, &[0], 1, Window::new(0, 3)).unwrap();
+        assert_eq!((part.place, part.bytes), (62, &b"abc"[..]));
+        let bad = b"CCSD1Z000001        NJPL1I00DEMO       3abc";
+        assert_eq!(jump(bad, &[0], 0, ALL), Err(Reason::BadLength.at(0)));
+        let bad = b"CCSD1Z000001       0NJPL1I00DEMO0000003 abc";
+        assert_eq!(jump(bad, &[0], 0, ALL), Err(Reason::BadLength.at(20)));
+    }
+
+    #[test]
     fn a_leaf_is_measured_against_the_file() {
         // The group claims to be empty, and the leaf runs past it.
         let file = b"CCSD1Z00000100000000NJPL1I00DEMO00000003abc";

@@ -21,12 +21,12 @@ refused-requires c κs = search needs
 returns : tie.Need-returns
 returns c =
     let e = sym (c .before .before .before .before .before .before .before .read-label .ensures) ∙ ap told (c .before .before .before .before .before .l .given .1) in
-    (answered-result e, (answered-part _ _ e, (answered-part _ _ e, (answered-part _ _ e, answered-part _ _ e))))
+    (answered-result e, (answered-part _ _ e, (answered-part _ _ e, (answered-part _ _ e, (answered-part _ _ e, answered-part _ _ e)))))
 
 returns-2 : tie.Need-returns-2
 returns-2 c =
     let e = sym (c .before .before .before .before .read-label .ensures) ∙ ap told (c .before .before .why .given .1) in
-    (c .refused .ensures ∙ refused-result e, (refused-part _ _ e, (refused-part _ _ e, (refused-part _ _ e, refused-part _ _ e))))
+    (c .refused .ensures ∙ refused-result e, (refused-part _ _ e, (refused-part _ _ e, (refused-part _ _ e, (refused-part _ _ e, refused-part _ _ e)))))
 
 pub crest-read-label-spec : {M : Type 1} → statement M
 crest-read-label-spec =

@@ -19,8 +19,9 @@ head-is-good-requires : tie.Need-head-is-good-requires
 head-is-good-requires c κs = search needs
 
 -- the label's fields with the agency and the description as they were read
-abbrev with : List ℕ → ℕ → Four → Four → Outcome Label
-with b n agency description = answer (record { agency = agency; class = getD b 5 0; description = description; length = n })
+abbrev with : List ℕ → ℕ → ℕ → Four → Four → Outcome Label
+with b n spaces agency description =
+    answer (record { agency = agency; class = getD b 5 0; description = description; length = n; spaces = spaces })
 
 returns : tie.Need-returns
 returns c = sym (bad-head (now (c .before .before .before .args .b)) (sym (c .before .head-is-good .ensures) ∙ not-true _ (c .if1 .taken)))
@@ -34,8 +35,8 @@ enum-known-n c = search needs
 four-at-requires : tie.Need-four-at-requires
 four-at-requires c κs = search needs
 
-shared-slice-read-t10 : tie.Need-shared-slice-read-t10
-shared-slice-read-t10 c = search needs
+shared-slice-read-t11 : tie.Need-shared-slice-read-t11
+shared-slice-read-t11 c = search needs
 
 four-at-requires-2 : tie.Need-four-at-requires-2
 four-at-requires-2 c κs = search needs
@@ -50,7 +51,7 @@ returns-2 c =
     let n = c .before .before .before .before .n .given in
     let field = sym (c .before .before .before .before .before .before .length-field .ensures) ∙ ap fieldRead (n .1) in
     sym (good-head b head ∙ ap (withLength b) field
-    ∙ ap₂ (with b (n .0 .0)) (sym (c .before .before .four-at .ensures)) (sym (c .four-at2 .ensures)))
+    ∙ ap₂ (with b (n .0 .0) (n .0 .1 .0)) (sym (c .before .before .four-at .ensures)) (sym (c .four-at2 .ensures)))
 
 returns-3 : tie.Need-returns-3
 returns-3 c =
@@ -68,7 +69,7 @@ label-of-spec =
     length-field-requires
     enum-known-n
     four-at-requires
-    shared-slice-read-t10
+    shared-slice-read-t11
     four-at-requires-2
     enum-told
     returns-2

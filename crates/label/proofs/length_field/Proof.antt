@@ -1,103 +1,57 @@
--- `label::length_field` meets its contract. The invariant: the field's reading is the reading of what is left from place
--- 12 + i on with n so far, and n has at most i digits.
-use Prim.Native.Nat.{ℕ, _+_, _-_, _≤_, _<_, _^_}
-use native.Mathlib.Omega.{arith}
+-- `label::length_field` meets its contract: eight digits are the whole field (`digits-alone`); else the digits stand behind the
+-- spaces that were counted.
+use Prim.Native.Nat.{ℕ, _+_}
 use mathlib.Core.Path.{_≡_, _∙_, sym, ap}
 use mathlib.Core.List.{List}
-use lib.ListN.{drop, drop-of-length-le}
-use borrow.Author.Needs.{needs}
+use lib.ListN.{drop}
+use lib.Seq.{drop-drop}
 use denote.Ref.{now}
-use Rattle.text.specs.Digits.{decimal}
-use Rattle.text.proofs.Digits.{one-digit-more}
-use Rattle.label.specs.Length.{lengthOf}
-use Rattle.label.proofs.LengthField.{eight-digits-at-most, next-digit, low-byte, high-byte}
+use Rattle.label.specs.Length.{spacesIn, numberIn, after, lengthOf}
+use Rattle.label.specs.Private.{fieldRead}
+use Rattle.label.proofs.Spaces.{digits-alone}
+use borrow.Author.Needs.{needs}
 use Rattle.label.proofs.length_field.Statement.{statement}
 use Rattle.label.proofs.length_field.Tie as tie
 
-pub record Inv (b : List ℕ) (n i : ℕ) : Type 0 where
-  pub within : i ≤ 8
-  pub small : n < 10 ^ i
-  pub same : lengthOf (drop 12 b) ≡ decimal n (drop (12 + i) b)
+-- the rule, with so many spaces
+with-spaces : (b : List ℕ) (k : ℕ) → k ≡ spacesIn (drop 12 b) → after k (numberIn (drop (12 + k) b)) ≡ lengthOf (drop 12 b)
+with-spaces b k e =
+    ap (λ (xs : List ℕ). after k (numberIn xs)) (sym (drop-drop k 12 b))
+    ∙ ap (λ (j : ℕ). after j (numberIn (drop j (drop 12 b)))) e
 
-abbrev Inv-loop : tie.InvT-loop
-Inv-loop b n₀ i₀ n i = Inv b n i
+digits-after-requires : tie.Need-digits-after-requires
+digits-after-requires c κs = search needs
 
-abbrev μ-loop : tie.MeasureT-loop
-μ-loop b n₀ i₀ n i = 8 - i
+enum-known-n : tie.Need-enum-known-n
+enum-known-n c = search needs
 
-loop-holds : tie.Need-loop-holds Inv-loop μ-loop
-loop-holds c = search needs
+enum-told : tie.Need-enum-told
+enum-told c = search needs
 
-add-wide : tie.Need-add-wide Inv-loop μ-loop
-add-wide c = omega arith
+spaces-in-requires : tie.Need-spaces-in-requires
+spaces-in-requires c κs = search needs
 
-shared-slice-read-wide : tie.Need-shared-slice-read-wide Inv-loop μ-loop
-shared-slice-read-wide c = omega arith
+digits-after-requires-2 : tie.Need-digits-after-requires-2
+digits-after-requires-2 c κs = search needs
 
-wide-requires : tie.Need-wide-requires Inv-loop μ-loop
-wide-requires c κs = search needs
-
-returns : tie.Need-returns Inv-loop μ-loop
+returns : tie.Need-returns
 returns c =
-    let l = c .before .before .before .before .loop in
-    let b = now (c .before .before .before .before .before .before .args .b) in
-    sym (l .inv .same ∙ low-byte b (l .n) (l .i) (c .before .wide .result) (omega arith) (c .before .wide .ensures .0) (c .if1 .taken))
+    sym (digits-alone (drop 12 (now (c .before .before .before .before .before .args .b))) _
+    (sym (c .before .before .before .digits-after .ensures) ∙ ap fieldRead (c .before .n .given .1)))
 
-returns-2 : tie.Need-returns-2 Inv-loop μ-loop
+returns-2 : tie.Need-returns-2
 returns-2 c =
-    let l = c .before .before .before .before .before .loop in
-    let b = now (c .before .before .before .before .before .before .before .args .b) in
-    sym (l .inv .same ∙ high-byte b (l .n) (l .i) (c .before .before .wide .result) (omega arith) (c .before .before .wide .ensures .0) (c .if2 .taken))
-
-mul-n : tie.Need-mul-n Inv-loop μ-loop
-mul-n c =
-    let l = c .before .before .before .before .before .loop in
-    let h : l .n < 100000000 = eight-digits-at-most (l .n) (l .i) (l .inv .within) (l .inv .small) in
-    omega arith
-
-add-n : tie.Need-add-n Inv-loop μ-loop
-add-n c =
-    let l = c .before .before .before .before .before .loop in
-    let h : l .n < 100000000 = eight-digits-at-most (l .n) (l .i) (l .inv .within) (l .inv .small) in
-    omega arith
-
-add-i : tie.Need-add-i Inv-loop μ-loop
-add-i c = omega arith
-
-loop-less : tie.Need-loop-less Inv-loop μ-loop
-loop-less c = omega arith
-
-loop-again : tie.Need-loop-again Inv-loop μ-loop
-loop-again c =
-    let l = c .before .before .before .before .before .loop in
-    let b = now (c .before .before .before .before .before .before .before .args .b) in
-    record {
-      within = omega arith;
-      small = one-digit-more (l .n) (c .before .before .wide .result - 48) (l .i) (l .inv .small) (omega arith);
-      same = l .inv .same ∙ next-digit b (l .n) (l .i) (c .before .before .wide .result) (omega arith) (c .before .before .wide .ensures .0) (c .before .if1 .left) (c .if2 .left);
-    }
-
-returns-3 : tie.Need-returns-3 Inv-loop μ-loop
-returns-3 c =
-    let l = c .before .loop in
-    let b = now (c .before .before .before .args .b) in
-    sym (l .inv .same ∙ ap (decimal (l .n)) (drop-of-length-le b {i = 12 + l .i} (omega arith)))
+    c .digits-after2 .ensures
+    ∙ with-spaces (now (c .before .before .before .before .before .before .args .b)) (c .before .spaces-in .result) (c .before .spaces-in .ensures .0)
 
 pub length-field-spec : {M : Type 1} → statement M
 length-field-spec =
     tie.close
     (tie.spec
-    Inv-loop
-    μ-loop
-    loop-holds
-    add-wide
-    shared-slice-read-wide
-    wide-requires
+    digits-after-requires
+    enum-known-n
+    enum-told
+    spaces-in-requires
+    digits-after-requires-2
     returns
-    returns-2
-    mul-n
-    add-n
-    add-i
-    loop-less
-    loop-again
-    returns-3)
+    returns-2)

@@ -28,7 +28,7 @@ last-digit-requires-8 : tie.Need-last-digit-requires-8
 last-digit-requires-8 c κs = search needs
 
 returns : tie.Need-returns
-returns c = cc
+returns c = simp (c .before .before .before .before .before .before .before .last-digit .ensures, c .before .before .before .before .before .before .last-digit2 .ensures, c .before .before .before .before .before .last-digit3 .ensures, c .before .before .before .before .last-digit4 .ensures, c .before .before .before .last-digit5 .ensures, c .before .before .last-digit6 .ensures, c .before .last-digit7 .ensures, c .last-digit8 .ensures)
 
 pub eight-digits-spec : {M : Type 1} → statement M
 eight-digits-spec =

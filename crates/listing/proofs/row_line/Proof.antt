@@ -31,18 +31,15 @@ with-requires-2 c κs = search needs
 with-number-requires-3 : tie.Need-with-number-requires-3
 with-number-requires-3 c κs = search needs
 
-slice-aggregate-with-3 : tie.Need-slice-aggregate-with-3
-slice-aggregate-with-3 c = search needs
-
-with-requires-3 : tie.Need-with-requires-3
-with-requires-3 c κs = search needs
+with-end-requires : tie.Need-with-end-requires
+with-end-requires c κs = search needs
 
 returns : tie.Need-returns
 returns c =
-    six-pieces (c .before .before .before .before .before .before .before .before .before .nothing .ensures)
-    (c .before .before .before .before .before .before .before .before .with-number .ensures .0) (c .before .before .before .before .before .before .with .ensures)
-    (c .before .before .before .before .before .with-number2 .ensures .0) (c .before .before .before .with2 .ensures)
-    (c .before .before .with-number3 .ensures .0) (c .with3 .ensures)
+    six-pieces (c .before .before .before .before .before .before .before .before .nothing .ensures)
+    (c .before .before .before .before .before .before .before .with-number .ensures .0) (c .before .before .before .before .before .with .ensures)
+    (c .before .before .before .before .with-number2 .ensures .0) (c .before .before .with2 .ensures)
+    (c .before .with-number3 .ensures .0) (c .with-end .ensures)
 
 pub row-line-spec : {M : Type 1} → statement M
 row-line-spec =
@@ -57,6 +54,5 @@ row-line-spec =
     slice-aggregate-with-2
     with-requires-2
     with-number-requires-3
-    slice-aggregate-with-3
-    with-requires-3
+    with-end-requires
     returns)

@@ -30,9 +30,9 @@ returns c =
     let back = c .before .copy .last .1 .0 in
     let copied = c .before .copy .ensures .1 in
     record {
-      room = as-long-as-before (l .bytes) piece back 72 (l .size) (fits .room) (fits .fits) copied;
+      room = as-long-as-before (l .bytes) piece back 96 (l .size) (fits .room) (fits .fits) copied;
       size = refl;
-      text = text-so-far (l .bytes) piece back 72 (l .size) (fits .room) (fits .fits) copied;
+      text = text-so-far (l .bytes) piece back 96 (l .size) (fits .room) (fits .fits) copied;
     }
 
 pub with-spec : {M : Type 1} → statement M

@@ -7,6 +7,9 @@ use independent::waveform::RECORD_BYTES;
 
 const LABEL: usize = LABEL_BYTES as usize;
 
+/// The bytes of a label's length field, which are its last.
+const FIELD: usize = 8;
+
 /// The bytes of a waveform row with its prefix.
 pub const RECORD: usize = RECORD_BYTES as usize;
 
@@ -18,9 +21,35 @@ pub fn odd_bytes(position: usize) -> &'static [u8] {
         5 => b"@[`azAYZ01",
         6 | 7 => b"1O9/: ",
         8..=11 => b"/:@[`az{09AZ ",
-        _ => b"/:09 +-aO\0\xb0",
+        _ => b"/:09 +-aO\0\xb0\t\x1f!\xa0",
     }
 }
+
+/// A length field: spaces, then the length in as many digits as there is room for.
+pub fn length_field(spaces: usize, length: usize) -> String {
+    let digits = FIELD - spaces;
+    format!("{:spaces$}{length:0digits$}", "")
+}
+
+/// The most spaces that can stand in front of a length.
+pub fn most_spaces(length: usize) -> usize {
+    FIELD - length.to_string().len()
+}
+
+/// Makes a field that is no length. It would be the given one, of at most four digits, if spaces
+/// and what looks like them were allowed anywhere.
+pub type BadField = fn(usize) -> String;
+
+pub const BAD_FIELDS: [BadField; 8] = [
+    |_| " ".repeat(FIELD),
+    |length| format!("{length:07} "),
+    |length| format!("000 {length:04}"),
+    |length| format!("  0 {length:04}"),
+    |length| format!("0{length:7}"),
+    |length| format!("\t{length:07}"),
+    |length| format!(" \t{length:06}"),
+    |length| format!("\0{length:07}"),
+];
 
 /// A label as it was put into a file.
 #[derive(Clone, Copy, Debug)]
@@ -37,6 +66,8 @@ pub struct Spot {
 pub struct LabelledFile {
     pub bytes: Vec<u8>,
     pub spots: Vec<Spot>,
+    /// So many of a hundred lengths have spaces in front, where there is room for them.
+    padded_percent: u64,
 }
 
 impl LabelledFile {
@@ -62,6 +93,35 @@ impl LabelledFile {
     pub fn index(&self) -> Vec<u32> {
         let places = self.leaves().into_iter().map(|leaf| leaf.place as u32);
         places.step_by(16).collect()
+    }
+
+    /// Writes all lengths once more, some of them with spaces in front. Most files come to have
+    /// labels with and without.
+    fn pad(mut self, random: &mut Random) -> LabelledFile {
+        self.padded_percent = random.weighted(&[(20, 0), (30, 30), (35, 60), (15, 100)]);
+        for spot in self.spots.clone() {
+            self.set_length(spot.place, spot.length, random);
+        }
+        self
+    }
+
+    /// Rewrites the length of the label at `place`, with spaces in front as often as the file has
+    /// them.
+    fn set_length(&mut self, place: usize, length: usize, random: &mut Random) {
+        let most = most_spaces(length);
+        let spaces = if !random.chance(self.padded_percent) {
+            0
+        } else if random.chance(50) {
+            most
+        } else {
+            random.between(0, most)
+        };
+        self.set_field(place, &length_field(spaces, length));
+    }
+
+    fn set_field(&mut self, place: usize, field: &str) {
+        let label = &mut self.bytes[place..place + LABEL];
+        label[LABEL - FIELD..].copy_from_slice(field.as_bytes());
     }
 }
 
@@ -114,7 +174,7 @@ fn write_label(
 ) {
     let place = file.bytes.len();
     file.bytes.extend(head);
-    file.bytes.extend(format!("{length:08}").bytes());
+    file.bytes.extend(length_field(0, length).bytes());
     file.spots.push(Spot {
         place,
         is_group,
@@ -169,9 +229,16 @@ fn group(random: &mut Random, inside: Vec<Object>) -> Object {
 fn value(random: &mut Random) -> Vec<u8> {
     if random.chance(10) {
         let mut looks_like = head(random, b'Z').to_vec();
-        looks_like.extend(random.pick(&[b"00000000", b"00000020", b"99999999"]));
+        looks_like.extend(random.pick(&[
+            b"00000000",
+            b"00000020",
+            b"99999999",
+            b"      20",
+            b" 9999999",
+            b"        ",
+        ]));
         looks_like.extend(head(random, b'I'));
-        looks_like.extend(b"00000000");
+        looks_like.extend(random.pick(&[b"00000000", b"       0"]));
         looks_like.truncate(random.pick(&[20, 40]));
         return looks_like;
     }
@@ -246,8 +313,10 @@ fn known(bytes: Vec<u8>) -> LabelledFile {
     let mut place = 0;
     let mut end = bytes.len();
     while place < bytes.len() {
-        let digits = std::str::from_utf8(&bytes[place + 12..place + 20]);
-        let length = digits.ok().and_then(|digits| digits.parse().ok());
+        let field = std::str::from_utf8(&bytes[place + LABEL - FIELD..place + LABEL]);
+        let length = field
+            .ok()
+            .and_then(|field| field.trim_start_matches(' ').parse().ok());
         let length: usize = length.unwrap_or_default();
         let is_group = bytes[place + 5] == b'Z';
         let room = end - place - LABEL;
@@ -267,7 +336,11 @@ fn known(bytes: Vec<u8>) -> LabelledFile {
             end = bytes.len();
         }
     }
-    LabelledFile { bytes, spots }
+    LabelledFile {
+        bytes,
+        spots,
+        ..LabelledFile::default()
+    }
 }
 
 #[derive(Clone, Copy)]
@@ -292,7 +365,7 @@ pub fn labelled(random: &mut Random) -> LabelledFile {
         (21, Shape::Tree),
         (1, Shape::Large),
     ]);
-    match shape {
+    let file = match shape {
         Shape::Empty => LabelledFile::default(),
         Shape::Demo => {
             known(b"CCSD1Z00000100000043NJPL1I00DEMO00000003abcNJPL1I00DEMO00000000".to_vec())
@@ -314,7 +387,110 @@ pub fn labelled(random: &mut Random) -> LabelledFile {
             written(&forest(random, leaves, 1, 50))
         }
         Shape::Large => written(&large(random)),
+    };
+    file.pad(random)
+}
+
+/// An object that ends where what encloses it ends, but for what its length field holds.
+#[derive(Clone, Copy, Debug)]
+pub struct LastObject {
+    pub is_group: bool,
+    /// Whether it is enclosed by a group, which others may follow, or by the file.
+    pub is_enclosed: bool,
+    pub field: Field,
+}
+
+#[derive(Clone, Copy, Debug)]
+pub enum Field {
+    /// So many spaces, and the object's length.
+    Fits(usize),
+    /// So many spaces, and one more than the object's length.
+    Beyond(usize),
+    /// What is no length.
+    Bad(BadField),
+}
+
+/// Each number of spaces at both sides of an object's end, and each bad field.
+pub fn last_objects() -> Vec<LastObject> {
+    let fields = || {
+        let fits = (0..FIELD).map(Field::Fits);
+        let beyond = (0..FIELD).map(Field::Beyond);
+        fits.chain(beyond).chain(BAD_FIELDS.map(Field::Bad))
+    };
+    let mut objects = Vec::new();
+    for (is_group, is_enclosed) in [(false, false), (false, true), (true, false), (true, true)] {
+        objects.extend(fields().map(|field| LastObject {
+            is_group,
+            is_enclosed,
+            field,
+        }));
     }
+    objects
+}
+
+impl LastObject {
+    /// A file with this object, and the place of the object's label.
+    pub fn in_file(self, random: &mut Random) -> (LabelledFile, usize) {
+        let leaves_before = random.pick(&[0, 0, 1, 2, 15, 16]);
+        let mut objects = forest(random, leaves_before, 1, 10);
+        let mut place = size_of_all(&objects);
+        let object = self.object(random);
+        let length = object.size() - LABEL;
+        if self.is_enclosed {
+            place += LABEL;
+            objects.push(group(random, vec![object]));
+            let leaves_after = random.between(0, 2);
+            objects.extend((0..leaves_after).map(|_| leaf(random)));
+        } else {
+            objects.push(object);
+        }
+        let mut file = written(&objects).pad(random);
+        file.set_field(place, &self.field_for(length));
+        (file, place)
+    }
+
+    fn object(self, random: &mut Random) -> Object {
+        let most = self.most_length();
+        if self.is_group {
+            let leaves = random.between(0, (most / 24).min(3));
+            let inside = (0..leaves).map(|_| {
+                let length = random.between(0, 4);
+                let value = random.bytes(length);
+                leaf_of(random, value)
+            });
+            let inside = inside.collect();
+            return group(random, inside);
+        }
+        let length = if random.chance(25) {
+            most.min(1_200)
+        } else {
+            random.between(0, most.min(40))
+        };
+        let value = random.bytes(length);
+        leaf_of(random, value)
+    }
+
+    /// The longest object of which the field can be written.
+    fn most_length(self) -> usize {
+        match self.field {
+            Field::Fits(spaces) => longest(spaces),
+            Field::Beyond(spaces) => longest(spaces) - 1,
+            Field::Bad(_) => longest(4),
+        }
+    }
+
+    fn field_for(self, length: usize) -> String {
+        match self.field {
+            Field::Fits(spaces) => length_field(spaces, length),
+            Field::Beyond(spaces) => length_field(spaces, length + 1),
+            Field::Bad(bad) => bad(length),
+        }
+    }
+}
+
+/// The largest length behind so many spaces.
+fn longest(spaces: usize) -> usize {
+    "9".repeat(FIELD - spaces).parse().unwrap_or_default()
 }
 
 /// Does one or two kinds of harm to a labelled file.
@@ -336,7 +512,7 @@ fn harm(file: &mut LabelledFile, random: &mut Random) {
     }
     let spot = random.pick(&spots);
     let label = spot.place..spot.place + LABEL;
-    match random.between(0, 9) {
+    match random.between(0, 11) {
         0..=2 => {
             let position = random.between(0, LABEL - 1);
             harm_byte(&mut file.bytes[label], position, random);
@@ -353,9 +529,10 @@ fn harm(file: &mut LabelledFile, random: &mut Random) {
                 spot.length + LABEL,
                 spot.length.saturating_sub(LABEL),
                 0,
+                9_999_999,
                 99_999_999,
             ]);
-            set_length(&mut file.bytes, spot.place, length);
+            file.set_length(spot.place, length, random);
         }
         6 | 7 => {
             let length = file.bytes.len();
@@ -372,6 +549,7 @@ fn harm(file: &mut LabelledFile, random: &mut Random) {
             let fill = random.pick(b"^\0 0");
             file.bytes.resize(file.bytes.len() + extra, fill);
         }
+        9 | 10 => harm_spaces(file, spot, random),
         _ => {
             let place = random.between(0, file.bytes.len() - 1);
             if random.chance(50) {
@@ -392,8 +570,26 @@ fn harm_byte(label: &mut [u8], position: usize, random: &mut Random) {
     };
 }
 
-/// Makes a group claim more than the file has, or puts a wrong digit into its
-/// length. The jump tells these apart. Gives the place of the group, if there is one.
+/// Makes a label's length a bad field, or puts a space too many in front of it: for its first
+/// digit, or as a ninth byte.
+fn harm_spaces(file: &mut LabelledFile, spot: Spot, random: &mut Random) {
+    let field = spot.place + LABEL - FIELD;
+    match random.between(0, 9) {
+        0 | 1 => {
+            let is_space = |byte: &&u8| **byte == b' ';
+            let spaces = file.bytes[field..].iter().take_while(is_space).count();
+            file.bytes[field + spaces.min(FIELD - 1)] = b' ';
+        }
+        2 => file.bytes.insert(field, b' '),
+        _ => {
+            let bad = random.pick(&BAD_FIELDS);
+            file.set_field(spot.place, &bad(spot.length.min(longest(4))));
+        }
+    }
+}
+
+/// Makes a group claim more than the file has, or nothing, or makes its length a bad field. The
+/// jump tells these apart. Gives the place of the group, if there is one.
 pub fn harm_group_length(file: &mut LabelledFile, random: &mut Random) -> Option<usize> {
     let groups = file.spots.iter().filter(|spot| spot.is_group);
     let groups: Vec<usize> = groups.map(|spot| spot.place).collect();
@@ -402,12 +598,19 @@ pub fn harm_group_length(file: &mut LabelledFile, random: &mut Random) -> Option
     }
     let place = random.pick(&groups);
     let to_file_end = file.bytes.len().checked_sub(place + LABEL)?;
-    if random.chance(30) {
-        let position = random.between(12, LABEL - 1);
-        harm_byte(&mut file.bytes[place..], position, random);
-    } else {
-        let length = random.pick(&[to_file_end + 1, 99_999_999, 0]);
-        set_length(&mut file.bytes, place, length);
+    match random.between(0, 9) {
+        0..=2 => {
+            let position = random.between(LABEL - FIELD, LABEL - 1);
+            harm_byte(&mut file.bytes[place..], position, random);
+        }
+        3 | 4 => {
+            let bad = random.pick(&BAD_FIELDS);
+            file.set_field(place, &bad(0));
+        }
+        _ => {
+            let length = random.pick(&[to_file_end + 1, 9_999_999, 99_999_999, 0]);
+            file.set_length(place, length, random);
+        }
     }
     Some(place)
 }
@@ -418,14 +621,8 @@ pub fn stretch_leaf(file: &mut LabelledFile, row: usize, random: &mut Random) ->
     let leaf = file.leaves().get(row).copied()?;
     let to_file_end = file.bytes.len().checked_sub(leaf.place + LABEL)?;
     let length = to_file_end + random.pick(&[0, 1, 1, 20]);
-    set_length(&mut file.bytes, leaf.place, length);
+    file.set_length(leaf.place, length, random);
     Some(leaf.place)
-}
-
-/// Rewrites the digits of the label at `place`.
-fn set_length(bytes: &mut [u8], place: usize, length: usize) {
-    let digits = format!("{length:08}");
-    bytes[place + 12..place + LABEL].copy_from_slice(digits.as_bytes());
 }
 
 /// A waveform file: mostly one to three rows, at times 32 or 33, at times
@@ -451,6 +648,7 @@ pub fn waveform(random: &mut Random) -> Vec<u8> {
 mod tests {
     use super::*;
     use independent::labelled::{check, leaves};
+    use independent::refusal::Reason;
 
     #[test]
     fn spots_are_where_the_labels_are() {
@@ -472,6 +670,69 @@ mod tests {
             }
         }
         assert!((10..200).contains(&refused), "{refused} nested too deep");
+    }
+
+    /// How many spaces stand in the length fields of a file's labels, and whether these are groups.
+    fn paddings(file: &LabelledFile) -> Vec<(bool, usize)> {
+        let of = |spot: &Spot| {
+            let field = &file.bytes[spot.place + LABEL - FIELD..];
+            let spaces = field.iter().take_while(|&&byte| byte == b' ').count();
+            (spot.is_group, spaces)
+        };
+        file.spots.iter().map(of).collect()
+    }
+
+    #[test]
+    fn most_files_have_labels_with_and_without_spaces() {
+        let mut random = Random::new(13);
+        let (mut none, mut mixed, mut all) = (0, 0, 0);
+        let mut seen = [[0; FIELD]; 2];
+        for _ in 0..1_000 {
+            let paddings = paddings(&labelled(&mut random));
+            if paddings.len() < 2 {
+                continue;
+            }
+            match paddings.iter().filter(|(_, spaces)| *spaces > 0).count() {
+                0 => none += 1,
+                padded if padded < paddings.len() => mixed += 1,
+                _ => all += 1,
+            }
+            for (is_group, spaces) in paddings {
+                seen[usize::from(is_group)][spaces] += 1;
+            }
+        }
+        assert!(mixed > none + all && none > 100 && all > 50);
+        let leaves_seen = seen[0].iter().all(|&count| count > 100);
+        let groups_seen = seen[1].iter().all(|&count| count > 20);
+        assert!(leaves_seen && groups_seen, "{seen:?}");
+    }
+
+    #[test]
+    fn a_padded_file_is_taken_over_too() {
+        let mut random = Random::new(14);
+        for _ in 0..100 {
+            let header = known(published::volume_header()).pad(&mut random);
+            let again = known(header.bytes.clone());
+            for (spot, other) in header.spots.iter().zip(&again.spots) {
+                assert_eq!((spot.place, spot.length), (other.place, other.length));
+            }
+            assert_eq!(header.spots.len(), again.spots.len());
+        }
+    }
+
+    #[test]
+    fn last_objects_fit_or_are_at_fault() {
+        let mut random = Random::new(15);
+        for object in last_objects().repeat(20) {
+            let (file, place) = object.in_file(&mut random);
+            let rows = file.leaves().len() as u64;
+            let expected = match object.field {
+                Field::Fits(_) => Ok(rows),
+                Field::Beyond(_) => Err(Reason::Overrun.at(place as u64)),
+                Field::Bad(_) => Err(Reason::BadLength.at(place as u64)),
+            };
+            assert_eq!(check(&file.bytes), expected, "{object:?}");
+        }
     }
 
     #[test]

@@ -8,7 +8,7 @@ pub mod random;
 
 use crate::Case;
 use crestulbino::{Kind, Window};
-use files::{LabelledFile, RECORD};
+use files::{LabelledFile, LastObject, RECORD};
 use independent::altimeter::TABLE;
 use independent::waveform::{PREFIX_BYTES, SAMPLE_BYTES};
 use random::{Deck, Random};
@@ -21,6 +21,8 @@ const SAMPLES: usize = SAMPLE_BYTES as usize;
 pub struct Generator {
     random: Random,
     label_harms: Deck<(usize, u8)>,
+    field_patterns: Deck<u8>,
+    last_objects: Deck<(CallAt, LastObject)>,
     head_harms: Deck<(usize, u8)>,
     samples: Deck<u8>,
     vax_numbers: Deck<VaxNumber>,
@@ -48,8 +50,8 @@ enum Fraction {
 type Call = fn(&mut Generator) -> Case;
 
 /// How often each call is asked.
-const CALLS: [(u64, Call); 19] = [
-    (8, Generator::read_label),
+const CALLS: [(u64, Call); 20] = [
+    (14, Generator::read_label),
     (8, Generator::write_label),
     (9, Generator::check_labelled),
     (2, Generator::check_waveform),
@@ -61,13 +63,27 @@ const CALLS: [(u64, Call); 19] = [
     (5, Generator::row_from_waveform),
     (8, Generator::build_index),
     (8, Generator::check_index),
+    (14, Generator::last_object),
     (4, Generator::keep_index),
     (7, Generator::load_kept),
     (7, Generator::sample),
     (5, Generator::vax_f),
     (6, Generator::vax_d),
     (6, Generator::opening),
-    (26, Generator::verdict),
+    (30, Generator::verdict),
+];
+
+/// A call on a file, above all on the object at a place of it.
+type CallAt = fn(&mut Generator, LabelledFile, usize) -> Case;
+
+/// The calls that go through a labelled file.
+const CALLS_AT: [CallAt; 6] = [
+    |_, file, _| Case::CheckLabelled { file: file.bytes },
+    Generator::read_row_at,
+    Generator::jump_at,
+    Generator::row_from_at,
+    Generator::build_index_at,
+    Generator::check_index_at,
 ];
 
 /// Calls with short lines, to be spoilt. They take no card from a deck whose
@@ -98,6 +114,8 @@ impl Generator {
         Generator {
             random: Random::new(seed),
             label_harms: Deck::new(label_harms(20)),
+            field_patterns: Deck::new((0..=255).collect()),
+            last_objects: Deck::new(last_objects()),
             head_harms: Deck::new(label_harms(12)),
             samples: Deck::new((0..=255).collect()),
             vax_numbers: Deck::new(vax_numbers()),
@@ -117,10 +135,37 @@ impl Generator {
     }
 
     fn read_label(&mut self) -> Case {
+        let bytes = if self.random.chance(45) {
+            self.label_of_spaces_and_digits()
+        } else {
+            self.harmed_label()
+        };
+        Case::ReadLabel { bytes }
+    }
+
+    /// A label whose length field is of spaces, where its pattern has ones, and of digits.
+    fn label_of_spaces_and_digits(&mut self) -> Vec<u8> {
+        let mut bytes = self.head().to_vec();
+        let pattern = self.field_patterns.deal(&mut self.random);
+        bytes.extend((0..8).map(|bit| match (pattern >> bit) & 1 {
+            1 => b' ',
+            _ => self.random.pick(b"0123456789"),
+        }));
+        bytes
+    }
+
+    /// A label, mostly with a byte or two at the edges of what is allowed, at times cut off or with
+    /// more behind it.
+    fn harmed_label(&mut self) -> Vec<u8> {
         let mut bytes = self.head().to_vec();
         let length = self.random.below(100_000_000) as usize;
         let length = self.random.pick(&[0, 3, 99_999_999, length]);
-        bytes.extend(format!("{length:08}").bytes());
+        let spaces = if self.random.chance(50) {
+            self.random.between(0, files::most_spaces(length))
+        } else {
+            0
+        };
+        bytes.extend(files::length_field(spaces, length).bytes());
         for _ in 0..self.random.weighted(&[(25, 0), (60, 1), (15, 2)]) {
             let (position, byte) = self.label_harms.deal(&mut self.random);
             bytes[position] = byte;
@@ -133,7 +178,7 @@ impl Generator {
             }
             _ => {}
         }
-        Case::ReadLabel { bytes }
+        bytes
     }
 
     fn write_label(&mut self) -> Case {
@@ -273,6 +318,83 @@ impl Generator {
             file: file.bytes,
             list,
         }
+    }
+
+    /// A file whose edge is an object's end or length field, and a call that goes through it.
+    fn last_object(&mut self) -> Case {
+        let (call, object) = self.last_objects.deal(&mut self.random);
+        let (file, place) = object.in_file(&mut self.random);
+        call(self, file, place)
+    }
+
+    fn read_row_at(&mut self, file: LabelledFile, place: usize) -> Case {
+        let (row, window) = self.row_at(&file, place);
+        Case::ReadRowLabelled {
+            file: file.bytes,
+            row,
+            window,
+        }
+    }
+
+    /// A jump that mostly meets the object, with the file's index or from the object itself.
+    fn jump_at(&mut self, file: LabelledFile, place: usize) -> Case {
+        let (mut row, window) = self.row_at(&file, place);
+        let mut list = file.index();
+        if self.random.chance(30) {
+            list = vec![place as u32];
+            row = 0;
+        } else if row / 16 >= list.len() {
+            list.push(place as u32);
+        }
+        Case::JumpLabelled {
+            file: file.bytes,
+            list,
+            row,
+            window,
+        }
+    }
+
+    fn row_from_at(&mut self, file: LabelledFile, place: usize) -> Case {
+        let from = if self.random.chance(70) {
+            place
+        } else {
+            edges::place(&mut self.random, &file.places(), file.bytes.len())
+        };
+        Case::RowFrom {
+            kind: Kind::Labelled,
+            file: file.bytes,
+            from,
+        }
+    }
+
+    fn build_index_at(&mut self, file: LabelledFile, _: usize) -> Case {
+        let list = vec![7; file.index().len() + 1];
+        Case::BuildIndex {
+            file: file.bytes,
+            list,
+        }
+    }
+
+    fn check_index_at(&mut self, file: LabelledFile, _: usize) -> Case {
+        let list = file.index();
+        Case::CheckIndex {
+            file: file.bytes,
+            list,
+        }
+    }
+
+    /// The first row from a place on, at times the next one, and a window that mostly fits it.
+    fn row_at(&mut self, file: &LabelledFile, place: usize) -> (usize, Window) {
+        let leaves = file.leaves();
+        let before = leaves.iter().filter(|leaf| leaf.place < place).count();
+        let row = before + usize::from(self.random.chance(25));
+        let length = leaves.get(row).map_or(0, |leaf| leaf.length);
+        let window = if self.random.chance(60) {
+            Window::new(0, length)
+        } else {
+            edges::window(&mut self.random, length)
+        };
+        (row, window)
     }
 
     fn keep_index(&mut self) -> Case {
@@ -539,6 +661,13 @@ fn label_harms(positions: usize) -> Vec<(usize, u8)> {
         .collect()
 }
 
+/// Each last object of a file with each call that goes through it.
+fn last_objects() -> Vec<(CallAt, LastObject)> {
+    let objects = files::last_objects().into_iter();
+    let calls = |object: LastObject| CALLS_AT.map(|call| (call, object));
+    objects.flat_map(calls).collect()
+}
+
 fn vax_numbers() -> Vec<VaxNumber> {
     let exponents = [0, 0, 1, 2, 127, 128, 129, 254, 255].map(Some);
     let fractions = [
@@ -625,6 +754,23 @@ mod tests {
         for seed in 0..4 {
             let size: usize = Generator::new(seed).take(500).map(|line| line.len()).sum();
             assert!(size < 4_000_000, "{size} bytes for seed {seed}");
+        }
+    }
+
+    #[test]
+    fn every_deck_is_dealt_in_ten_thousand_cases() {
+        for seed in 0..3 {
+            let mut generator = Generator::new(seed);
+            assert_eq!(generator.by_ref().take(10_000).count(), 10_000);
+            assert!(generator.label_harms.is_through());
+            assert!(generator.field_patterns.is_through());
+            assert!(generator.last_objects.is_through());
+            assert!(generator.head_harms.is_through());
+            assert!(generator.samples.is_through());
+            assert!(generator.vax_numbers.is_through());
+            assert!(generator.limit_values.is_through());
+            assert!(generator.unknown_elements.is_through());
+            assert!(generator.bad_lines.is_through());
         }
     }
 

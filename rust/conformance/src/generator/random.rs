@@ -76,17 +76,22 @@ pub struct Deck<T> {
 impl<T: Copy> Deck<T> {
     pub fn new(cards: Vec<T>) -> Self {
         assert!(!cards.is_empty());
-        let dealt = cards.len();
-        Deck { cards, dealt }
+        Deck { cards, dealt: 0 }
     }
 
     pub fn deal(&mut self, random: &mut Random) -> T {
-        if self.dealt == self.cards.len() {
+        let next = self.dealt % self.cards.len();
+        if next == 0 {
             random.shuffle(&mut self.cards);
-            self.dealt = 0;
         }
         self.dealt += 1;
-        self.cards[self.dealt - 1]
+        self.cards[next]
+    }
+
+    /// Whether every card was dealt.
+    #[cfg(test)]
+    pub fn is_through(&self) -> bool {
+        self.dealt >= self.cards.len()
     }
 }
 

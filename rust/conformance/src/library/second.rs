@@ -14,6 +14,7 @@ pub const INDEPENDENT: Library = Library {
             class: label.class,
             description: label.description,
             length: label.length as usize,
+            spaces: label.spaces,
         })
     },
     write_label: |head, length, buffer| count(label::write(head, length as u64, buffer)),
