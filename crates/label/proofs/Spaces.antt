@@ -68,28 +68,39 @@ number-was-read : (xs : List ℕ) (n : ℕ) → numberIn xs ≡ some n → (0 < 
 number-was-read [] n e = absurd (none-is-not-some e)
 number-was-read (b ∷ bs) n e = (omega arith, e)
 
-pub read-is-padded : (field : List ℕ) (l : Length) → lengthOf field ≡ some l → Padded field l
-read-is-padded field l e = padded (numberIn (drop k field)) refl e
-  where
-    k : ℕ
-    k = spacesIn field
+-- digits that were read behind so many spaces
+pub record Behind (k : ℕ) (xs : List ℕ) (l : Length) : Type 0 where
+  pub not-none : 0 < length xs
+  pub number : decimal 0 xs ≡ some (l .bytes)
+  pub spaces : k ≡ l .spaces
 
-    padded : (o : Option ℕ) → numberIn (drop k field) ≡ o → after k o ≡ some l → Padded field l
-    padded none is e = absurd (let z : _≡_ {A = ℕ} 0 1 = cc in omega arith)
-    padded (some n) is e =
-        let (not-none, number) = number-was-read (drop k field) n is in
+read-behind : (k : ℕ) (xs : List ℕ) (l : Length) → after k (numberIn xs) ≡ some l → Behind k xs l
+read-behind k xs l e = behind (numberIn xs) refl e
+  where
+    behind : (o : Option ℕ) → numberIn xs ≡ o → after k o ≡ some l → Behind k xs l
+    behind none is e = absurd (let z : _≡_ {A = ℕ} 0 1 = cc in omega arith)
+    behind (some n) is e =
         let said : record { bytes = n; spaces = k } ≡ l = cc in
+        let (not-none, number) = number-was-read xs n is in
         record {
-          digits = drop k field;
-          is = spaces-then-rest field ∙ ap (λ (m : Length). replicate (m .spaces) 32 ++ drop k field) said;
           not-none = not-none;
           number = number ∙ ap (λ (m : Length). some (m .bytes)) said;
+          spaces = ap (λ (m : Length). m .spaces) said;
         }
+
+pub read-is-padded : (field : List ℕ) (l : Length) → lengthOf field ≡ some l → Padded field l
+read-is-padded field l e =
+    let digits = drop (spacesIn field) field in
+    let r = read-behind (spacesIn field) digits l e in
+    record {
+      digits = digits;
+      is = spaces-then-rest field ∙ ap (λ (k : ℕ). replicate k 32 ++ digits) (r .spaces);
+      not-none = r .not-none;
+      number = r .number;
+    }
 
 -- digits from the field's first byte on are the whole field
 pub digits-alone : (xs : List ℕ) (l : Length) → after 0 (numberIn xs) ≡ some l → lengthOf xs ≡ some l
-digits-alone xs l e = alone (numberIn xs) refl e
-  where
-    alone : (o : Option ℕ) → numberIn xs ≡ o → after 0 o ≡ some l → lengthOf xs ≡ some l
-    alone none is e = absurd (let z : _≡_ {A = ℕ} 0 1 = cc in omega arith)
-    alone (some n) is e = let (not-none, number) = number-was-read xs n is in padded-is-read 0 xs n not-none number ∙ e
+digits-alone xs l e =
+    let r = read-behind 0 xs l e in
+    padded-is-read 0 xs (l .bytes) (r .not-none) (r .number) ∙ ap (λ (k : ℕ). some (record { bytes = l .bytes; spaces = k })) (r .spaces)

@@ -1,6 +1,7 @@
 // The label writer: bytes 0-11 as lent and a length in eight digits, to the front of a buffer. Renders
-// document 01, "The label writer is lent bytes 0-11 .. and told the length". That every label that
-// can be read is written again as the same label is proved in `proofs/RoundTrip.antt`.
+// document 01, "The label writer is lent bytes 0-11 .. and told the length". That what is written reads
+// back, and that every label that can be read is written again as the same label with no spaces, is
+// stated in `specs/ReadBack.antt` and proved in `proofs/RoundTrip.antt`.
 use answer::Count;
 use answer::Refusal;
 ghost use mathlib.Core.Path.{_≡_};

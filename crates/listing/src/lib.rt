@@ -1,6 +1,6 @@
-// The listing of a labelled file as one text. Renders document 01, "The list program", with the
-// last column of document 02, item 2: `rows N` and a line for each row, or `refused NUMBER PLACE` alone. Reading the file and printing
-// the text are left to the programs above.
+// The listing of a labelled file as one text. Renders document 01, "The list program", with the last
+// column of document 02, item 2: `rows N` and a line for each row, or `refused NUMBER PLACE` alone.
+// Reading the file and printing the text are left to the programs above.
 use answer::Count;
 use answer::Refusal;
 use label::Four;
