@@ -19,6 +19,7 @@ pub record Length : Type 0 where
   pub bytes : ℕ
   pub spaces : ℕ
 
+-- one space more than so many, or none where the byte is no space
 abbrev pub oneMore : Bool → ℕ → ℕ
 oneMore true n = suc n
 oneMore false n = 0
@@ -33,14 +34,15 @@ abbrev pub numberIn : List ℕ → Option ℕ
 numberIn [] = none
 numberIn (b ∷ bs) = decimal 0 (b ∷ bs)
 
+-- a number behind so many spaces
 abbrev pub after : ℕ → Option ℕ → Option Length
 after spaces (some n) = some (record { bytes = n; spaces = spaces })
 after spaces none = none
 
--- the rule for the length field: the spaces in front, and behind them digits only
+-- the rule for the length field: the spaces in front, and behind them one or more digits and nothing else
 abbrev pub lengthOf : List ℕ → Option Length
 lengthOf field = after (spacesIn field) (numberIn (drop (spacesIn field) field))
 
--- how many spaces the label at place `at` of a file has ("The label reader also says how many spaces it found")
+-- how many spaces the label at place `at` of a file has, for the listing's last column
 abbrev pub spacesAt : List ℕ → ℕ → ℕ
 spacesAt f at = spacesIn (take fieldSize (drop (at + headSize) f))
