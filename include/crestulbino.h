@@ -137,7 +137,8 @@ crest_result crest_write_label(const uint8_t *head, size_t head_len, uint64_t le
 /* ---- Files: check, read from the first byte, jump, go on ---- */
 
 /*
- * reader::check of a labelled file. Checks the whole file, as deep as it goes.
+ * reader::check of a labelled file. Checks the whole file, as deep as it goes: objects of the classes Z, U and F hold further objects,
+ * and the value of every other one is a row.
  * Refuses: TOOBIG; then at the first faulty label, with its place: DEEP, SHORT, BADLABEL, BADLENGTH, OVERRUN.
  * Writes: rows, how many rows the file has.
  */

@@ -58,7 +58,7 @@ enum Field {
 pub fn is_opened(class: u8) -> bool
     ensures { λ r. ⌜ r ≡ isOpened class ⌝ }
 {
-    class == 90
+    (class == 70) | (class == 85) | (class == 90)
 }
 
 // An upper-case letter or a digit.

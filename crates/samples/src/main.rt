@@ -1,8 +1,9 @@
 // Samples, printed and compared with a stored output: files of the folder data/ listed as the list
 // program lists them, among them records of source documents 001 (sections 3.2.1, 3.2.2 and 3.5.12)
-// and 004 (sections 4.4.146 to 4.4.149), and one whose lengths are padded with 0 to 7 spaces at four
-// depths; the opening of that record of file 12; and document 01's cases that are not proved, 6 (depths
-// 8 and 9) and 9 (windows at the end of a waveform row).
+// and 004 (sections 4.4.146 to 4.4.149), one whose lengths are padded with 0 to 7 spaces at four
+// depths, and two with objects of classes U and F, of which one does not divide; the opening of that
+// record of file 12; and document 01's cases that are not proved, 6 (depths 8 and 9) and 9 (windows at
+// the end of a waveform row).
 use answer::Refusal;
 use answer::Show;
 use libc::STDOUT_FILENO;
@@ -131,6 +132,8 @@ fn main() {
     print_opening(b"file_12_record.sfdu");
     list(b"pass_file.sfdu");
     list(b"padded_lengths.sfdu");
+    list(b"inner_sets.sfdu");
+    list(b"inner_set_cut.sfdu");
     list(b"bytes_65536.sfdu");
     list(b"bytes_65537.sfdu");
     print_window(2048, 0);

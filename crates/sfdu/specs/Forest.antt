@@ -1,5 +1,6 @@
 -- The grammar of labelled files: objects side by side, each a leaf with its value or an opened object with what is inside
--- (document 01: "A file, and each class Z value, must divide exactly"; "labels of any class may stand at depths 1 to 8").
+-- (document 01: "A file, and each class Z value, must divide exactly", with the classes that document 02, item 3, opens;
+-- "labels of any class may stand at depths 1 to 8").
 -- A file divides, with no gap or overlap, when a valid forest has exactly its bytes.
 use Prim.Native.Nat.{ℕ, zero, suc, _+_}
 use mathlib.Core.Path.{_≡_}

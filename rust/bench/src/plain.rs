@@ -47,7 +47,7 @@ pub fn read_label(bytes: &[u8]) -> Result<Label, Fault> {
 fn label(bytes: &[u8]) -> Result<(bool, usize), u8> {
     let (head, field) = head_and_field(bytes)?;
     let (_, length) = spaces_and_length(field)?;
-    Ok((head[5] == b'Z', length))
+    Ok((matches!(head[5], b'F' | b'U' | b'Z'), length))
 }
 
 /// The two parts of the label at the front of the bytes, of which the first is good.

@@ -110,7 +110,7 @@ mod tests {
             left: ("right", &INDEPENDENT),
             right: ("wrong", &wrong),
         };
-        sides.first_difference(1, 5_000, |_| {})
+        sides.first_difference(3, 5_000, |_| {})
     }
 
     #[test]

@@ -1,6 +1,6 @@
-//! Every single-byte damage of nested files, with and without spaces in their lengths: both
-//! implementations say the same of the check, of each row read, of the index, of each jump and of
-//! going on from each label.
+//! Every single-byte damage of nested files with groups of all classes, with and without spaces in
+//! their lengths: both implementations say the same of the check, of each row read, of the index, of
+//! each jump and of going on from each label.
 
 use conformance::library::{INDEPENDENT, PROVED};
 use crestulbino::{Kind, Window};
@@ -9,22 +9,25 @@ fn leaf(value: &str) -> String {
     format!("NJPL1I00DEMO{:08}{value}", value.len())
 }
 
-fn group(inside: &[String]) -> String {
+fn group(class: char, inside: &[String]) -> String {
     let inside = inside.concat();
-    format!("CCSD1Z000001{:08}{inside}", inside.len())
+    format!("CCSD1{class}000001{:08}{inside}", inside.len())
 }
 
 /// Six rows, three deep, with an empty group and a value that looks like a label.
 fn small_file() -> Vec<u8> {
-    let inner = group(&[leaf("x"), group(&[leaf("")]), leaf(&leaf("y"))]);
-    let file = [leaf("ab"), group(&[inner, group(&[]), leaf("c")]), leaf("")];
+    let innermost = group('F', &[leaf("")]);
+    let inner = group('U', &[leaf("x"), innermost, leaf(&leaf("y"))]);
+    let outer = group('Z', &[inner, group('U', &[]), leaf("c")]);
+    let file = [leaf("ab"), outer, leaf("")];
     file.concat().into_bytes()
 }
 
 /// Eighteen rows, so that the index has two entries, in two groups.
 fn two_entries_file() -> Vec<u8> {
     let rows = |count| vec![leaf("z"); count];
-    let file = [group(&rows(9)), group(&[group(&rows(8)), leaf("last")])];
+    let second = group('F', &[group('Z', &rows(8)), leaf("last")]);
+    let file = [group('U', &rows(9)), second];
     file.concat().into_bytes()
 }
 
@@ -119,7 +122,7 @@ fn every_value_in_every_byte_of_a_small_file() {
 #[test]
 fn telling_values_in_every_byte_of_a_file_with_two_entries() {
     let file = two_entries_file();
-    let values = b"\0\t /01289:@ACNPYZ[az\x7f\x80\xb0\xff";
+    let values = b"\0\t /01289:@ACFNPUYZ[afuz\x7f\x80\xb0\xff";
     for file in [padded(&file), file] {
         let accepted = damage(&file, 18, values.iter().copied());
         let tried = values.len() * file.len();

@@ -21,7 +21,7 @@ fn check_by_recursion(file: &[u8], from: usize, end: usize, left: u8) -> Result<
             return Err(at(Reason::Overrun));
         }
         rows += match label.class {
-            b'Z' => check_by_recursion(file, value, value + length, left - 1)?,
+            b'F' | b'U' | b'Z' => check_by_recursion(file, value, value + length, left - 1)?,
             _ => 1,
         };
         place = value + length;

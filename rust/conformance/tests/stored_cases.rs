@@ -40,3 +40,11 @@ fn stored_answers_of_lengths_behind_spaces() {
         include_str!("data/spaces.answers"),
     );
 }
+
+#[test]
+fn stored_answers_of_classes() {
+    same(
+        include_str!("data/classes.cases"),
+        include_str!("data/classes.answers"),
+    );
+}

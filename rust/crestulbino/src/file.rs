@@ -7,8 +7,8 @@ use std::iter::FusedIterator;
 /// What a file is. The caller says so: no call can tell the kinds apart.
 #[derive(Clone, Copy, Debug, PartialEq, Eq, Hash)]
 pub enum Kind {
-    /// Objects with 20-byte CCSDS labels. Its rows are the values of the objects of all classes
-    /// but `Z`, which holds further objects.
+    /// Objects with 20-byte CCSDS labels. Those of the classes `Z`, `U` and `F` hold further
+    /// objects; the values of all others are the rows.
     Labelled,
     /// Rows of 2,080 bytes: a prefix of 32, then 2,048 samples, which are the row.
     Waveform,
@@ -66,6 +66,8 @@ impl Row<'_> {
 /// use crestulbino::{check, Kind, Refusal};
 ///
 /// assert_eq!(check(Kind::Labelled, b"NJPL1I00DEMO00000003abc")?, 1);
+/// let set_of_two = b"CCSD1U00SET100000043NJPL1I00DEMO00000003abcNJPL1I00DEMO00000000";
+/// assert_eq!(check(Kind::Labelled, set_of_two)?, 2);
 /// assert_eq!(check(Kind::Waveform, &[0; 2 * 2_080])?, 2);
 /// let refused = check(Kind::Waveform, &[0; 2_079]).unwrap_err();
 /// assert_eq!(refused.refusal, Refusal::Ragged);

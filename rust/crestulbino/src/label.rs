@@ -11,7 +11,7 @@ pub const LABEL_BYTES: usize = 20;
 pub struct Label {
     /// `NJPL` or `CCSD`.
     pub agency: [u8; 4],
-    /// `A` to `Z`. The value of class `Z` is itself divided into labelled objects.
+    /// `A` to `Z`. A value of class `Z`, `U` or `F` is itself divided into labelled objects.
     pub class: u8,
     /// Upper-case letters and digits.
     pub description: [u8; 4],

@@ -11,8 +11,8 @@ pub const LONGEST_VALUE: u64 = 99_999_999;
 
 const TYPE_BYTES: usize = 12;
 
-/// The class whose value is divided into further objects.
-const GROUP_CLASS: u8 = b'Z';
+/// The structure classes: their values are divided into further objects.
+pub const GROUP_CLASSES: [u8; 3] = *b"ZUF";
 
 /// The variable contents of a label.
 #[derive(Clone, Copy, Debug, PartialEq, Eq)]
@@ -27,7 +27,7 @@ pub struct Label {
 
 impl Label {
     pub fn is_group(&self) -> bool {
-        self.class == GROUP_CLASS
+        GROUP_CLASSES.contains(&self.class)
     }
 
     /// Reads the label that begins at `place`, from bytes that end at `end`.
@@ -138,6 +138,13 @@ mod tests {
             ..expected
         };
         assert_eq!(read(b"NJPL1I00DEMO       3abc"), Ok(padded));
+    }
+
+    #[test]
+    fn three_classes_of_26_are_groups() {
+        let is_group = |class: &u8| read(&damaged(5, *class)).unwrap().is_group();
+        let groups: Vec<u8> = (b'A'..=b'Z').filter(is_group).collect();
+        assert_eq!(groups, b"FUZ");
     }
 
     #[test]

@@ -217,6 +217,34 @@ mod tests {
     }
 
     #[test]
+    fn a_set_inside_a_group_of_any_class_is_its_rows() {
+        for class in ['Z', 'U', 'F'] {
+            let set = format!("CCSD1{class}00000100000043");
+            let file = set + "NJPL1I00DEMO00000003abcNJPL1E00DEMO00000000";
+            assert_eq!(check(file.as_bytes()), Ok(2));
+            let part = read_row(file.as_bytes(), 0, Window::new(0, 3)).unwrap();
+            assert_eq!((part.place, part.bytes), (40, &b"abc"[..]));
+            assert_eq!(from(file.as_bytes(), 43), Ok((63, &b""[..])));
+        }
+    }
+
+    #[test]
+    fn groups_of_all_classes_are_refused_alike() {
+        for class in ['Z', 'U', 'F'] {
+            for (value, reason) in [
+                ("x", Reason::Short),
+                ("NJPL1I00DEMO0000000", Reason::Short),
+                ("NJPL1i00DEMO00000000", Reason::BadLabel),
+                ("NJPL1I00DEMO0000000 ", Reason::BadLength),
+                ("NJPL1I00DEMO00000001", Reason::Overrun),
+            ] {
+                let file = format!("CCSD1{class}000001{:08}{value}y", value.len());
+                assert_eq!(check(file.as_bytes()), Err(reason.at(20)), "{file}");
+            }
+        }
+    }
+
+    #[test]
     fn lengths_behind_spaces() {
         let file = b"CCSD1Z000001      43NJPL1I00DEMO       3abcNJPL1I00DEMO   00000";
         assert_eq!(check(file), Ok(2));

@@ -2,7 +2,7 @@
 
 use super::published;
 use super::random::Random;
-use independent::label::LABEL_BYTES;
+use independent::label::{GROUP_CLASSES, LABEL_BYTES};
 use independent::waveform::RECORD_BYTES;
 
 const LABEL: usize = LABEL_BYTES as usize;
@@ -18,7 +18,7 @@ pub fn odd_bytes(position: usize) -> &'static [u8] {
     match position {
         0..=3 => b"NCXLnc \0",
         4 => b"023l\xb1",
-        5 => b"@[`azAYZ01",
+        5 => b"@[`azfuAYZEFGTUV01",
         6 | 7 => b"1O9/: ",
         8..=11 => b"/:@[`az{09AZ ",
         _ => b"/:09 +-aO\0\xb0\t\x1f!\xa0",
@@ -93,6 +93,19 @@ impl LabelledFile {
     pub fn index(&self) -> Vec<u32> {
         let places = self.leaves().into_iter().map(|leaf| leaf.place as u32);
         places.step_by(16).collect()
+    }
+
+    /// The index that the file had while class Z alone was opened.
+    pub fn old_index(&self) -> Vec<u32> {
+        let mut places = Vec::new();
+        let mut passed = 0;
+        for spot in &self.spots {
+            if spot.place >= passed && self.bytes.get(spot.place + 5) != Some(&b'Z') {
+                places.push(spot.place as u32);
+                passed = spot.place + LABEL + spot.length;
+            }
+        }
+        places.into_iter().step_by(16).collect()
     }
 
     /// Writes all lengths once more, some of them with spaces in front. Most files come to have
@@ -202,13 +215,24 @@ pub fn head(random: &mut Random, class: u8) -> [u8; 12] {
     head
 }
 
-/// A class other than that of groups.
+/// A class other than those of groups, often a neighbour of one of them.
 pub fn leaf_class(random: &mut Random) -> u8 {
-    if random.chance(60) {
-        random.pick(b"IKRAY")
-    } else {
-        b'A' + random.below(25) as u8
+    match random.between(0, 9) {
+        0..=3 => random.pick(b"IKRA"),
+        4..=6 => random.pick(b"EGTVY"),
+        _ => random.pick(b"ABCDEGHIJKLMNOPQRSTVWXY"),
     }
+}
+
+/// Any of the 26 classes.
+fn any_class(random: &mut Random) -> u8 {
+    b'A' + random.below(26) as u8
+}
+
+/// The type bytes of a group's label.
+pub fn group_head(random: &mut Random) -> [u8; 12] {
+    let class = random.pick(&GROUP_CLASSES);
+    head(random, class)
 }
 
 fn leaf_of(random: &mut Random, value: Vec<u8>) -> Object {
@@ -222,13 +246,13 @@ fn leaf(random: &mut Random) -> Object {
 }
 
 fn group(random: &mut Random, inside: Vec<Object>) -> Object {
-    Object::Group(head(random, b'Z'), inside)
+    Object::Group(group_head(random), inside)
 }
 
 /// A short value, sometimes one that could be taken for labels.
 fn value(random: &mut Random) -> Vec<u8> {
     if random.chance(10) {
-        let mut looks_like = head(random, b'Z').to_vec();
+        let mut looks_like = group_head(random).to_vec();
         looks_like.extend(random.pick(&[
             b"00000000",
             b"00000020",
@@ -318,7 +342,7 @@ fn known(bytes: Vec<u8>) -> LabelledFile {
             .ok()
             .and_then(|field| field.trim_start_matches(' ').parse().ok());
         let length: usize = length.unwrap_or_default();
-        let is_group = bytes[place + 5] == b'Z';
+        let is_group = GROUP_CLASSES.contains(&bytes[place + 5]);
         let room = end - place - LABEL;
         spots.push(Spot {
             place,
@@ -493,6 +517,99 @@ fn longest(spaces: usize) -> usize {
     "9".repeat(FIELD - spaces).parse().unwrap_or_default()
 }
 
+/// An object of one of the 26 classes at one of the 8 depths.
+#[derive(Clone, Copy, Debug)]
+pub struct Classed {
+    pub class: u8,
+    pub depth: usize,
+    /// Whether its value divides into objects. That matters to groups only.
+    pub divides: bool,
+}
+
+/// Each class at each depth, with a value that divides and with one that does not.
+pub fn classed() -> Vec<Classed> {
+    let mut objects = Vec::new();
+    for class in b'A'..=b'Z' {
+        for depth in 1..=8 {
+            objects.extend([true, false].map(|divides| Classed {
+                class,
+                depth,
+                divides,
+            }));
+        }
+    }
+    objects
+}
+
+impl Classed {
+    pub fn is_group(self) -> bool {
+        GROUP_CLASSES.contains(&self.class)
+    }
+
+    /// A file with this object inside of groups, and the place of the object's label.
+    pub fn in_file(self, random: &mut Random) -> (LabelledFile, usize) {
+        let mut objects = vec![self.object(random)];
+        let mut place = 0;
+        for depth in (1..=self.depth).rev() {
+            let leaves_before = match depth {
+                1 => random.pick(&[0, 0, 1, 14, 15, 16]),
+                _ => random.pick(&[0, 0, 0, 1]),
+            };
+            let mut level: Vec<Object> = (0..leaves_before).map(|_| leaf(random)).collect();
+            place += size_of_all(&level);
+            level.append(&mut objects);
+            let leaves_after = random.pick(&[0, 0, 1, 2]);
+            level.extend((0..leaves_after).map(|_| leaf(random)));
+            if depth > 1 {
+                level = vec![group(random, level)];
+                place += LABEL;
+            }
+            objects = level;
+        }
+        (written(&objects).pad(random), place)
+    }
+
+    fn object(self, random: &mut Random) -> Object {
+        let inside = match (self.divides, self.depth) {
+            (true, 8) => Vec::new(),
+            (true, depth) => {
+                let leaves = random.pick(&[0, 1, 2, 3, 17]);
+                forest(random, leaves, depth + 1, 20)
+            }
+            (false, _) => indivisible(random),
+        };
+        let head = head(random, self.class);
+        if self.is_group() {
+            Object::Group(head, inside)
+        } else {
+            Object::Leaf(head, written(&inside).bytes)
+        }
+    }
+}
+
+/// What no value divides into: at times a leaf, then bytes that are no object.
+fn indivisible(random: &mut Random) -> Vec<Object> {
+    let mut objects = Vec::new();
+    if random.chance(30) {
+        objects.push(leaf(random));
+    }
+    let length = random.between(0, 5);
+    let class = any_class(random);
+    let mut label = head(random, class).to_vec();
+    match random.between(0, 4) {
+        0 => label = random.bytes(20),
+        1 => label.truncate(random.between(1, 12)),
+        2 => label.extend(length_field(1, length + 1).bytes()),
+        3 => label.extend(random.pick(&BAD_FIELDS)(length).bytes()),
+        _ => label.extend(b"0000000"),
+    }
+    if label.len() >= LABEL {
+        label.extend(random.bytes(length));
+    }
+    objects.push(Object::Stray(label));
+    objects
+}
+
 /// Does one or two kinds of harm to a labelled file.
 pub fn damage(file: &mut LabelledFile, random: &mut Random) {
     harm(file, random);
@@ -512,7 +629,7 @@ fn harm(file: &mut LabelledFile, random: &mut Random) {
     }
     let spot = random.pick(&spots);
     let label = spot.place..spot.place + LABEL;
-    match random.between(0, 11) {
+    match random.between(0, 13) {
         0..=2 => {
             let position = random.between(0, LABEL - 1);
             harm_byte(&mut file.bytes[label], position, random);
@@ -550,6 +667,7 @@ fn harm(file: &mut LabelledFile, random: &mut Random) {
             file.bytes.resize(file.bytes.len() + extra, fill);
         }
         9 | 10 => harm_spaces(file, spot, random),
+        11 | 12 => file.bytes[spot.place + 5] = any_class(random),
         _ => {
             let place = random.between(0, file.bytes.len() - 1);
             if random.chance(50) {
@@ -733,6 +851,57 @@ mod tests {
             };
             assert_eq!(check(&file.bytes), expected, "{object:?}");
         }
+    }
+
+    #[test]
+    fn objects_of_each_class_divide_or_are_at_fault() {
+        let mut random = Random::new(18);
+        for object in classed().repeat(20) {
+            let (file, place) = object.in_file(&mut random);
+            let rows = file.leaves().len() as u64;
+            let is_good = object.divides || !object.is_group();
+            match check(&file.bytes) {
+                Ok(found) => assert!(is_good && found == rows, "{object:?}"),
+                Err(refusal) => {
+                    let spot = file.spots.iter().find(|spot| spot.place == place);
+                    let value = place + LABEL..place + LABEL + spot.unwrap().length;
+                    let is_inside = value.contains(&(refusal.place as usize));
+                    assert!(!is_good && is_inside, "{object:?}: {refusal:?}");
+                }
+            }
+        }
+    }
+
+    #[test]
+    fn groups_of_each_class_stand_at_all_depths() {
+        let mut random = Random::new(19);
+        let mut seen = [[0; 8]; GROUP_CLASSES.len()];
+        for _ in 0..1_000 {
+            let file = labelled(&mut random);
+            let mut ends = Vec::new();
+            for spot in file.spots.iter().filter(|spot| spot.is_group) {
+                ends.retain(|&end| end > spot.place);
+                let class = file.bytes[spot.place + 5];
+                let which = GROUP_CLASSES.iter().position(|&group| group == class);
+                if let Some(count) = seen[which.unwrap()].get_mut(ends.len()) {
+                    *count += 1;
+                }
+                ends.push(spot.place + LABEL + spot.length);
+            }
+        }
+        let is_seen = |counts: &[u32; 8]| counts.iter().all(|&count| count > 10);
+        assert!(seen.iter().all(is_seen), "{seen:?}");
+    }
+
+    #[test]
+    fn old_indexes_are_right_and_wrong() {
+        let mut random = Random::new(20);
+        let mut right = 0;
+        for _ in 0..1_000 {
+            let file = labelled(&mut random);
+            right += u32::from(file.old_index() == file.index());
+        }
+        assert!((200..800).contains(&right), "{right} of 1000");
     }
 
     #[test]

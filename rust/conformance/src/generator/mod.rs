@@ -8,7 +8,7 @@ pub mod random;
 
 use crate::Case;
 use crestulbino::{Kind, Window};
-use files::{LabelledFile, LastObject, RECORD};
+use files::{Classed, LabelledFile, LastObject, RECORD};
 use independent::altimeter::TABLE;
 use independent::waveform::{PREFIX_BYTES, SAMPLE_BYTES};
 use random::{Deck, Random};
@@ -23,6 +23,7 @@ pub struct Generator {
     label_harms: Deck<(usize, u8)>,
     field_patterns: Deck<u8>,
     last_objects: Deck<(CallAt, LastObject)>,
+    classed: Deck<Classed>,
     head_harms: Deck<(usize, u8)>,
     samples: Deck<u8>,
     vax_numbers: Deck<VaxNumber>,
@@ -50,7 +51,7 @@ enum Fraction {
 type Call = fn(&mut Generator) -> Case;
 
 /// How often each call is asked.
-const CALLS: [(u64, Call); 20] = [
+const CALLS: [(u64, Call); 21] = [
     (14, Generator::read_label),
     (8, Generator::write_label),
     (9, Generator::check_labelled),
@@ -64,6 +65,7 @@ const CALLS: [(u64, Call); 20] = [
     (8, Generator::build_index),
     (8, Generator::check_index),
     (14, Generator::last_object),
+    (12, Generator::classed),
     (4, Generator::keep_index),
     (7, Generator::load_kept),
     (7, Generator::sample),
@@ -116,6 +118,7 @@ impl Generator {
             label_harms: Deck::new(label_harms(20)),
             field_patterns: Deck::new((0..=255).collect()),
             last_objects: Deck::new(last_objects()),
+            classed: Deck::new(files::classed()),
             head_harms: Deck::new(label_harms(12)),
             samples: Deck::new((0..=255).collect()),
             vax_numbers: Deck::new(vax_numbers()),
@@ -327,6 +330,14 @@ impl Generator {
         call(self, file, place)
     }
 
+    /// A file with an object of some class at some depth, and a call that goes through it.
+    fn classed(&mut self) -> Case {
+        let object = self.classed.deal(&mut self.random);
+        let (file, place) = object.in_file(&mut self.random);
+        let call = self.random.pick(&CALLS_AT);
+        call(self, file, place)
+    }
+
     fn read_row_at(&mut self, file: LabelledFile, place: usize) -> Case {
         let (row, window) = self.row_at(&file, place);
         Case::ReadRowLabelled {
@@ -376,7 +387,11 @@ impl Generator {
     }
 
     fn check_index_at(&mut self, file: LabelledFile, _: usize) -> Case {
-        let list = file.index();
+        let list = if self.random.chance(20) {
+            file.old_index()
+        } else {
+            file.index()
+        };
         Case::CheckIndex {
             file: file.bytes,
             list,
@@ -470,11 +485,10 @@ impl Generator {
 
     /// The type bytes of a label of any class.
     fn head(&mut self) -> [u8; 12] {
-        let class = if self.random.chance(25) {
-            b'Z'
-        } else {
-            files::leaf_class(&mut self.random)
-        };
+        if self.random.chance(25) {
+            return files::group_head(&mut self.random);
+        }
+        let class = files::leaf_class(&mut self.random);
         files::head(&mut self.random, class)
     }
 
@@ -533,7 +547,7 @@ impl Generator {
         list
     }
 
-    /// Makes an index wrong in one respect.
+    /// Makes an index wrong in one respect, or an old one, which may be right.
     fn wrong_list(&mut self, list: &mut Vec<u32>, file: &LabelledFile) {
         let other = self.any_entry(file);
         if list.is_empty() {
@@ -541,7 +555,7 @@ impl Generator {
             return;
         }
         let at = self.random.between(0, list.len() - 1);
-        match self.random.between(0, 8) {
+        match self.random.between(0, 9) {
             0 => list[at] = list[at].wrapping_add(1),
             1 => list[at] = list[at].wrapping_sub(1),
             2 => list[at] = list[at].wrapping_add(20),
@@ -551,7 +565,8 @@ impl Generator {
                 list.pop();
             }
             6 => list.push(other),
-            7 => {
+            7 => *list = file.old_index(),
+            8 => {
                 let last = list[list.len() - 1];
                 list.push(last);
             }
@@ -765,6 +780,7 @@ mod tests {
             assert!(generator.label_harms.is_through());
             assert!(generator.field_patterns.is_through());
             assert!(generator.last_objects.is_through());
+            assert!(generator.classed.is_through());
             assert!(generator.head_harms.is_through());
             assert!(generator.samples.is_through());
             assert!(generator.vax_numbers.is_through());

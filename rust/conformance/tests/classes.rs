@@ -1,0 +1,121 @@
+//! Which classes hold objects, tried with both implementations: each class at each depth, and files
+//! in which the letters Z, U and F are exchanged.
+
+use conformance::generator::{files, random::Random};
+use conformance::library::{Library, INDEPENDENT, PROVED};
+use crestulbino::{Kind, Refusal, Refused, Window};
+
+const LIBRARIES: [Library; 2] = [INDEPENDENT, PROVED];
+
+const LABEL: usize = 20;
+
+fn object(class: char, value: &str) -> String {
+    format!("CCSD1{class}00DEMO{:08}{value}", value.len())
+}
+
+/// An object inside of so many groups, of all three classes in turn.
+fn enclosed(mut object_inside: String, groups: usize) -> String {
+    for class in ['U', 'F', 'Z'].into_iter().cycle().take(groups) {
+        object_inside = object(class, &object_inside);
+    }
+    object_inside
+}
+
+fn refused<T>(refusal: Refusal, place: usize) -> Result<T, Refused> {
+    Err(Refused { refusal, place })
+}
+
+#[test]
+fn each_class_at_each_depth() {
+    let row = object('I', "abc");
+    for library in LIBRARIES {
+        for (class, depth) in ('A'..='Z').flat_map(|class| (1..=8).map(move |d| (class, d))) {
+            let value = depth * LABEL;
+            let check = |inside: &str| {
+                let file = enclosed(object(class, inside), depth - 1);
+                let rows = (library.check)(Kind::Labelled, file.as_bytes());
+                let first = (library.row_from)(Kind::Labelled, file.as_bytes(), 0);
+                (rows, first.map(|row| row.place))
+            };
+            let is_opened = ['F', 'U', 'Z'].contains(&class);
+            let (rows, first) = check(&row);
+            match (is_opened, depth) {
+                (true, 8) => assert_eq!(rows, refused(Refusal::Deep, value)),
+                _ => assert_eq!(rows, Ok(1)),
+            }
+            assert_eq!(first, Ok(value + if is_opened { LABEL } else { 0 }));
+            let (rows, first) = check("abc");
+            match (is_opened, depth) {
+                (true, 8) => assert_eq!(rows, refused(Refusal::Deep, value)),
+                (true, _) => assert_eq!(rows, refused(Refusal::Short, value)),
+                _ => assert_eq!(rows, Ok(1)),
+            }
+            match is_opened {
+                true => assert_eq!(first, refused(Refusal::Short, value)),
+                false => assert_eq!(first, Ok(value)),
+            }
+            let (rows, first) = check("");
+            assert_eq!(rows, Ok(usize::from(!is_opened)));
+            match is_opened {
+                true => assert_eq!(first, refused(Refusal::NoRow, 0)),
+                false => assert_eq!(first, Ok(value)),
+            }
+        }
+    }
+}
+
+/// The same bytes with other ones of the three letters, in labels and values alike.
+fn exchanged(file: &[u8], random: &mut Random) -> Vec<u8> {
+    let other = |&byte: &u8| match byte {
+        b'F' | b'U' | b'Z' => random.pick(b"FUZ"),
+        _ => byte,
+    };
+    file.iter().map(other).collect()
+}
+
+/// What a library says of a file: its rows, its index, each row read and jumped to, and the first
+/// row from each place, with every refusal and every place, but without the bytes themselves.
+fn all_answers(library: &Library, file: &[u8], list: &[u32]) -> String {
+    let mut built = [7; 8];
+    let index = (library.build_index)(file, &mut built);
+    let checked = (library.check)(Kind::Labelled, file);
+    let accepted = (library.check_index)(file, list);
+    let mut answers = format!("{checked:?} {index:?} {built:?} {accepted:?}");
+    for row in 0..=checked.unwrap_or(2) {
+        let window = Window::new(0, row % 3);
+        let read = (library.read_row)(Kind::Labelled, file, row, window);
+        let jumped = (library.jump_labelled)(file, list, row, window);
+        let places = [read, jumped].map(|row| row.map(|row| row.place));
+        answers += &format!(" {places:?}");
+    }
+    for from in 0..=file.len().min(200) {
+        let row = (library.row_from)(Kind::Labelled, file, from);
+        let part = row.map(|row| (row.place, row.bytes.len()));
+        answers += &format!(" {part:?}");
+    }
+    answers
+}
+
+/// A value of class U or F is divided, or refused, as one of class Z is; and where the letters stand
+/// for something else, all three do.
+#[test]
+fn the_three_letters_are_the_same_to_every_call() {
+    let mut random = Random::new(21);
+    let (mut accepted, mut changed) = (0, 0);
+    for _ in 0..1_500 {
+        let mut file = files::labelled(&mut random);
+        if random.chance(50) {
+            files::damage(&mut file, &mut random);
+        }
+        let list = file.index();
+        let other = exchanged(&file.bytes, &mut random);
+        changed += u32::from(other != file.bytes);
+        for library in &LIBRARIES {
+            let answers = all_answers(library, &file.bytes, &list);
+            assert_eq!(answers, all_answers(library, &other, &list));
+            accepted += u32::from(answers.starts_with("Ok"));
+        }
+    }
+    assert!((600..2_400).contains(&accepted), "{accepted} accepted");
+    assert!(changed > 1_000, "{changed} changed");
+}
