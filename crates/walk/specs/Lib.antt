@@ -1,3 +1,4 @@
 pub mod Walk
 pub mod Find
 pub mod Private
+pub mod Classes
