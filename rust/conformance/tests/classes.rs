@@ -96,7 +96,7 @@ fn all_answers(library: &Library, file: &[u8], list: &[u32]) -> String {
     answers
 }
 
-/// A value of class U or F is divided, or refused, as one of class Z is; and where the letters stand
+/// A value of class U or F is divided, or refused, as one of class Z is; and where a letter stands
 /// for something else, all three do.
 #[test]
 fn the_three_letters_are_the_same_to_every_call() {
