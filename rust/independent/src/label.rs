@@ -1,5 +1,6 @@
 //! The 20-byte label in front of every object: twelve bytes of type, and eight
-//! that count the bytes behind them, in digits that may have spaces in front.
+//! that count the bytes behind them. A label's version says how it is counted:
+//! in digits that may have spaces in front, or as a binary number.
 
 use crate::refusal::{Reason, Refusal};
 
@@ -11,13 +12,73 @@ pub const LONGEST_VALUE: u64 = 99_999_999;
 
 const TYPE_BYTES: usize = 12;
 
+/// Where the version stands among the type bytes.
+const VERSION_BYTE: usize = 4;
+
+/// Size of the length field.
+const FIELD_BYTES: usize = LABEL_BYTES as usize - TYPE_BYTES;
+
 /// The structure classes: their values are divided into further objects.
 pub const GROUP_CLASSES: [u8; 3] = *b"ZUF";
+
+/// The versions of the label. They differ in how the length is written, and in
+/// nothing else.
+#[derive(Clone, Copy, Debug, PartialEq, Eq)]
+pub enum Version {
+    /// In digits, with or without spaces in front.
+    One,
+    /// As a binary number, the most significant byte first.
+    Two,
+}
+
+impl Version {
+    /// The version that a label's version byte names.
+    fn named(byte: u8) -> Option<Version> {
+        match byte {
+            b'1' => Some(Version::One),
+            b'2' => Some(Version::Two),
+            _ => None,
+        }
+    }
+
+    /// How many spaces stand in front of the length in a field, and the
+    /// length; nothing if the field holds none.
+    fn read_field(self, field: [u8; FIELD_BYTES]) -> Option<(u8, u64)> {
+        match self {
+            Version::One => spaces_and_length(&field),
+            Version::Two => Some((0, u64::from_be_bytes(field))),
+        }
+    }
+
+    /// The field for a length; nothing if it has no room for it.
+    fn field(self, length: u64) -> Option<[u8; FIELD_BYTES]> {
+        match self {
+            Version::One if length > LONGEST_VALUE => None,
+            Version::One => format!("{length:08}").into_bytes().try_into().ok(),
+            Version::Two => Some(length.to_be_bytes()),
+        }
+    }
+}
+
+/// The versions that a call takes. To a call that takes the first only, a label
+/// of the second is no label.
+#[derive(Clone, Copy, Debug, PartialEq, Eq)]
+pub enum Versions {
+    First,
+    Both,
+}
+
+impl Versions {
+    fn allows(self, version: &Version) -> bool {
+        self == Versions::Both || *version == Version::One
+    }
+}
 
 /// The variable contents of a label.
 #[derive(Clone, Copy, Debug, PartialEq, Eq)]
 pub struct Label {
     pub agency: [u8; 4],
+    pub version: Version,
     pub class: u8,
     pub description: [u8; 4],
     pub length: u64,
@@ -32,43 +93,54 @@ impl Label {
 
     /// Reads the label that begins at `place`, from bytes that end at `end`.
     /// The caller keeps `place <= end` and `end` inside the file.
-    pub(crate) fn read_at(file: &[u8], place: u64, end: u64) -> Result<Label, Refusal> {
-        parse(&file[place as usize..end as usize]).map_err(|reason| reason.at(place))
+    pub(crate) fn read_at(
+        versions: Versions,
+        file: &[u8],
+        place: u64,
+        end: u64,
+    ) -> Result<Label, Refusal> {
+        let bytes = &file[place as usize..end as usize];
+        parse(versions, bytes).map_err(|reason| reason.at(place))
     }
 }
 
 /// Reads the label at the front of the lent bytes; what follows it is ignored.
-pub fn read(bytes: &[u8]) -> Result<Label, Refusal> {
-    parse(bytes).map_err(Reason::at_start)
+pub fn read(versions: Versions, bytes: &[u8]) -> Result<Label, Refusal> {
+    parse(versions, bytes).map_err(Reason::at_start)
 }
 
-/// Writes a label of the given type bytes and length to the front of `buffer`.
-/// Answers how many bytes were written. The length is written in digits only.
-pub fn write(head: &[u8], length: u64, buffer: &mut [u8]) -> Result<u64, Refusal> {
-    if !is_type(head) {
+/// Writes a label of the given version, type bytes and length to the front of
+/// `buffer`. Answers how many bytes were written. Digits are written without
+/// spaces.
+pub fn write(
+    version: Version,
+    head: &[u8],
+    length: u64,
+    buffer: &mut [u8],
+) -> Result<u64, Refusal> {
+    if version_of(head) != Some(version) {
         return Err(Reason::BadLabel.at_start());
     }
-    if length > LONGEST_VALUE {
-        return Err(Reason::TooLong.at_start());
-    }
+    let field = version.field(length).ok_or(Reason::TooLong.at_start())?;
     let label = buffer
         .get_mut(..LABEL_BYTES as usize)
         .ok_or(Reason::Small.at_start())?;
-    let (front, digits) = label.split_at_mut(TYPE_BYTES);
+    let (front, back) = label.split_at_mut(TYPE_BYTES);
     front.copy_from_slice(head);
-    digits.copy_from_slice(format!("{length:08}").as_bytes());
+    back.copy_from_slice(&field);
     Ok(LABEL_BYTES)
 }
 
-fn parse(bytes: &[u8]) -> Result<Label, Reason> {
-    let label = bytes.get(..LABEL_BYTES as usize).ok_or(Reason::Short)?;
-    let (head, field) = label.split_at(TYPE_BYTES);
-    if !is_type(head) {
-        return Err(Reason::BadLabel);
-    }
-    let (spaces, length) = spaces_and_length(field).ok_or(Reason::BadLength)?;
+fn parse(versions: Versions, bytes: &[u8]) -> Result<Label, Reason> {
+    let (head, rest) = bytes.split_at_checked(TYPE_BYTES).ok_or(Reason::Short)?;
+    let field = *rest.first_chunk().ok_or(Reason::Short)?;
+    let version = version_of(head)
+        .filter(|version| versions.allows(version))
+        .ok_or(Reason::BadLabel)?;
+    let (spaces, length) = version.read_field(field).ok_or(Reason::BadLength)?;
     Ok(Label {
         agency: [head[0], head[1], head[2], head[3]],
+        version,
         class: head[5],
         description: [head[8], head[9], head[10], head[11]],
         length,
@@ -85,16 +157,20 @@ fn spaces_and_length(field: &[u8]) -> Option<(u8, u64)> {
     Some((spaces as u8, length))
 }
 
-/// Whether these are the twelve bytes of an allowed label type.
-fn is_type(head: &[u8]) -> bool {
-    head.len() == TYPE_BYTES
+/// The version of a label with these type bytes; nothing if they are not the
+/// twelve of a label.
+fn version_of(head: &[u8]) -> Option<Version> {
+    let is_type = head.len() == TYPE_BYTES
         && matches!(&head[..4], b"NJPL" | b"CCSD")
-        && head[4] == b'1'
         && head[5].is_ascii_uppercase()
         && &head[6..8] == b"00"
         && head[8..]
             .iter()
-            .all(|byte| byte.is_ascii_uppercase() || byte.is_ascii_digit())
+            .all(|byte| byte.is_ascii_uppercase() || byte.is_ascii_digit());
+    if !is_type {
+        return None;
+    }
+    Version::named(head[VERSION_BYTE])
 }
 
 /// The number written in ASCII digits, or nothing if one of the bytes is no
@@ -112,8 +188,24 @@ mod tests {
 
     const DEMO: &[u8; 20] = b"NJPL1I00DEMO00000003";
 
-    fn damaged(position: usize, byte: u8) -> [u8; 20] {
-        let mut label = *DEMO;
+    /// The same label in version 2.
+    const DEMO_2: &[u8; 20] = b"NJPL2I00DEMO\0\0\0\0\0\0\0\x03";
+
+    const CHOICES: [Versions; 2] = [Versions::First, Versions::Both];
+
+    /// Reads what is no label of version 2: whether that is allowed does not matter.
+    fn read(bytes: &[u8]) -> Result<Label, Refusal> {
+        let [first, both] = CHOICES.map(|versions| super::read(versions, bytes));
+        assert_eq!(first, both);
+        first
+    }
+
+    fn read_both(bytes: &[u8]) -> Result<Label, Refusal> {
+        super::read(Versions::Both, bytes)
+    }
+
+    fn damaged(label: &[u8; 20], position: usize, byte: u8) -> [u8; 20] {
+        let mut label = *label;
         label[position] = byte;
         label
     }
@@ -122,6 +214,7 @@ mod tests {
     fn reads_the_fields() {
         let expected = Label {
             agency: *b"NJPL",
+            version: Version::One,
             class: b'I',
             description: *b"DEMO",
             length: 3,
@@ -138,11 +231,52 @@ mod tests {
             ..expected
         };
         assert_eq!(read(b"NJPL1I00DEMO       3abc"), Ok(padded));
+        let binary = Label {
+            version: Version::Two,
+            ..expected
+        };
+        assert_eq!(read_both(DEMO_2), Ok(binary));
+    }
+
+    #[test]
+    fn version_2_is_read_where_it_is_allowed() {
+        let refused = super::read(Versions::First, DEMO_2);
+        assert_eq!(refused, Err(Reason::BadLabel.at_start()));
+        assert_eq!(read_both(DEMO_2).unwrap().length, 3);
+        let [one, other] = [DEMO, DEMO_2].map(|label| read_both(&label[..19]));
+        assert_eq!((one, other), (Err(Reason::Short.at_start()), one));
+    }
+
+    /// Any eight bytes are a length, those of digits and spaces too.
+    #[test]
+    fn binary_lengths() {
+        for (field, length) in [
+            (*b"\0\0\0\0\0\0\0\0", 0),
+            ([1, 2, 3, 4, 5, 6, 7, 8], 0x0102_0304_0506_0708),
+            ([0, 0, 0, 0, 0x80, 0, 0, 0], 1 << 31),
+            ([0, 0, 0, 1, 0, 0, 0, 0], 1 << 32),
+            ([0x80, 0, 0, 0, 0, 0, 0, 0], 1 << 63),
+            ([0x7f, 255, 255, 255, 255, 255, 255, 255], (1 << 63) - 1),
+            ([255; 8], u64::MAX),
+            (*b"00000003", 0x3030_3030_3030_3033),
+            (*b"       3", 0x2020_2020_2020_2033),
+            (*b"        ", 0x2020_2020_2020_2020),
+        ] {
+            let label = read_both(&[b"NJPL2I00DEMO", &field[..]].concat()).unwrap();
+            assert_eq!((label.version, label.spaces), (Version::Two, 0));
+            assert_eq!(label.length, length);
+        }
+        for bit in 0..64 {
+            let field = (1u64 << bit).to_be_bytes();
+            assert_eq!(field[7 - bit / 8], 1 << (bit % 8));
+            let label = read_both(&[b"NJPL2I00DEMO", &field[..]].concat()).unwrap();
+            assert_eq!(label.length, 1 << bit);
+        }
     }
 
     #[test]
     fn three_classes_of_26_are_groups() {
-        let is_group = |class: &u8| read(&damaged(5, *class)).unwrap().is_group();
+        let is_group = |class: &u8| read(&damaged(DEMO, 5, *class)).unwrap().is_group();
         let groups: Vec<u8> = (b'A'..=b'Z').filter(is_group).collect();
         assert_eq!(groups, b"FUZ");
     }
@@ -154,34 +288,34 @@ mod tests {
         assert_eq!(read(b""), Err(Reason::Short.at_start()));
     }
 
-    /// Tries every byte value at every position of a good label.
+    /// Tries every byte value at every position of a good label of each version, told each choice.
     #[test]
     fn one_byte_at_a_time() {
         const LETTERS: &[u8] = b"ABCDEFGHIJKLMNOPQRSTUVWXYZ";
         const DIGITS: &[u8] = b"0123456789";
-        for (position, &good) in DEMO.iter().enumerate() {
-            for byte in 0..=255u8 {
-                let allowed = match position {
-                    0..=3 => byte == good,
-                    4 => byte == b'1',
-                    5 => LETTERS.contains(&byte),
-                    6 | 7 => byte == b'0',
-                    8..=11 => LETTERS.contains(&byte) || DIGITS.contains(&byte),
-                    12 => DIGITS.contains(&byte) || byte == b' ',
-                    _ => DIGITS.contains(&byte),
+        let places = (0..20).flat_map(|position| (0..=255u8).map(move |byte| (position, byte)));
+        for (label, versions) in [(DEMO, CHOICES[0]), (DEMO, CHOICES[1]), (DEMO_2, CHOICES[1])] {
+            for (position, byte) in places.clone() {
+                let damaged = damaged(label, position, byte);
+                let version = damaged[4];
+                let is_version = version == b'1' || version == b'2' && versions == Versions::Both;
+                let is_type = is_version
+                    && match position {
+                        0..=3 | 6 | 7 => byte == label[position],
+                        5 => LETTERS.contains(&byte),
+                        8..=11 => LETTERS.contains(&byte) || DIGITS.contains(&byte),
+                        _ => true,
+                    };
+                let digits = &damaged[12 + usize::from(damaged[12] == b' ')..];
+                let is_length = version == b'2' || digits.iter().all(|byte| DIGITS.contains(byte));
+                let read = super::read(versions, &damaged).map(|label| label.version);
+                let expected = match (is_type, is_length) {
+                    (false, _) => Err(Reason::BadLabel.at_start()),
+                    (true, false) => Err(BAD_LENGTH),
+                    (true, true) if version == b'1' => Ok(Version::One),
+                    (true, true) => Ok(Version::Two),
                 };
-                let reason = if position < 12 {
-                    Reason::BadLabel
-                } else {
-                    Reason::BadLength
-                };
-                match read(&damaged(position, byte)) {
-                    Ok(_) => assert!(allowed, "{byte} at {position} accepted"),
-                    Err(refusal) => {
-                        assert!(!allowed, "{byte} at {position} refused");
-                        assert_eq!(refusal, reason.at_start());
-                    }
-                }
+                assert_eq!(read, expected, "{byte} at {position}");
             }
         }
     }
@@ -283,8 +417,13 @@ mod tests {
 
     #[test]
     fn a_bad_type_comes_before_a_bad_length() {
-        for bytes in [b"NJPL2I00DEMO0000000x", b"NJPL2I00DEMO        "] {
+        for bytes in [b"NJPL3I00DEMO0000000x", b"NJPL0I00DEMO        "] {
             assert_eq!(read(bytes), Err(Reason::BadLabel.at_start()));
+        }
+        for bytes in [b"NJPL2I00DEMO0000000x", b"NJPL2I00DEMO        "] {
+            let refused = super::read(Versions::First, bytes);
+            assert_eq!(refused, Err(Reason::BadLabel.at_start()));
+            assert!(read_both(bytes).is_ok());
         }
     }
 
@@ -299,10 +438,13 @@ mod tests {
     #[test]
     fn writes_the_front_of_the_buffer_only() {
         let mut buffer = [b'.'; 22];
-        assert_eq!(write(b"NJPL1I00DEMO", 3, &mut buffer), Ok(20));
+        assert_eq!(write(Version::One, b"NJPL1I00DEMO", 3, &mut buffer), Ok(20));
         assert_eq!(&buffer, b"NJPL1I00DEMO00000003..");
+        assert_eq!(write(Version::Two, b"NJPL2I00DEMO", 3, &mut buffer), Ok(20));
+        assert_eq!(&buffer, b"NJPL2I00DEMO\0\0\0\0\0\0\0\x03..");
         let mut exact = [0; 20];
-        assert_eq!(write(b"CCSD1Z000001", LONGEST_VALUE, &mut exact), Ok(20));
+        let written = write(Version::One, b"CCSD1Z000001", LONGEST_VALUE, &mut exact);
+        assert_eq!(written, Ok(20));
         assert_eq!(&exact, b"CCSD1Z00000199999999");
     }
 
@@ -310,26 +452,47 @@ mod tests {
     fn the_writer_writes_no_spaces() {
         for length in [0, 3, 10, 9_999_999, LONGEST_VALUE] {
             let mut buffer = [b' '; 20];
-            assert_eq!(write(b"NJPL1I00DEMO", length, &mut buffer), Ok(20));
+            let written = write(Version::One, b"NJPL1I00DEMO", length, &mut buffer);
+            assert_eq!(written, Ok(20));
             let label = read(&buffer).unwrap();
             assert_eq!((label.spaces, label.length), (0, length));
         }
     }
 
     #[test]
+    fn any_length_is_written_in_version_2() {
+        let around = [31, 32, 63].map(|bit| 1u64 << bit);
+        let around = around.into_iter().flat_map(|n| [n - 1, n, n + 1]);
+        for length in around.chain([0, LONGEST_VALUE + 1, 1 << 40, u64::MAX]) {
+            let mut buffer = [b' '; 20];
+            let written = write(Version::Two, b"NJPL2I00DEMO", length, &mut buffer);
+            assert_eq!(written, Ok(20));
+            let label = read_both(&buffer).unwrap();
+            assert_eq!((label.version, label.length), (Version::Two, length));
+        }
+    }
+
+    #[test]
     fn writer_refusals_come_in_order_and_write_nothing() {
+        use Version::{One, Two};
         let mut buffer = [b'.'; 19];
-        let cases: [(&[u8], u64, Reason); 7] = [
-            (b"", 100_000_000, Reason::BadLabel),
-            (b"NJPL1I00DEM", 100_000_000, Reason::BadLabel),
-            (b"NJPL1I00DEMO0", 100_000_000, Reason::BadLabel),
-            (b"NJPL1i00DEMO", 100_000_000, Reason::BadLabel),
-            (b"NJPL1I00DEMO", 100_000_000, Reason::TooLong),
-            (b"NJPL1I00DEMO", u64::MAX, Reason::TooLong),
-            (b"NJPL1I00DEMO", 99_999_999, Reason::Small),
+        let cases: [(Version, &[u8], u64, Reason); 12] = [
+            (One, b"", 100_000_000, Reason::BadLabel),
+            (One, b"NJPL1I00DEM", 100_000_000, Reason::BadLabel),
+            (One, b"NJPL1I00DEMO0", 100_000_000, Reason::BadLabel),
+            (One, b"NJPL1i00DEMO", 100_000_000, Reason::BadLabel),
+            (One, b"NJPL2I00DEMO", 100_000_000, Reason::BadLabel),
+            (Two, b"NJPL1I00DEMO", 100_000_000, Reason::BadLabel),
+            (Two, b"NJPL3I00DEMO", 3, Reason::BadLabel),
+            (One, b"NJPL1I00DEMO", 100_000_000, Reason::TooLong),
+            (One, b"NJPL1I00DEMO", u64::MAX, Reason::TooLong),
+            (One, b"NJPL1I00DEMO", 99_999_999, Reason::Small),
+            (Two, b"NJPL2I00DEMO", 100_000_000, Reason::Small),
+            (Two, b"NJPL2I00DEMO", u64::MAX, Reason::Small),
         ];
-        for (head, length, reason) in cases {
-            assert_eq!(write(head, length, &mut buffer), Err(reason.at_start()));
+        for (version, head, length, reason) in cases {
+            let refused = write(version, head, length, &mut buffer);
+            assert_eq!(refused, Err(reason.at_start()));
             assert_eq!(buffer, [b'.'; 19]);
         }
     }

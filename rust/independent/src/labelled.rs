@@ -2,7 +2,7 @@
 //! an index, and going on from a place.
 
 use crate::check_size;
-use crate::label::{Label, LABEL_BYTES};
+use crate::label::{Label, Versions, LABEL_BYTES};
 use crate::refusal::{Reason, Refusal};
 use crate::window::{Part, Row, Window};
 
@@ -25,16 +25,18 @@ pub struct Leaf {
 /// lies at the bottom of the pile, so the size of the pile is the depth at
 /// which the next label would stand.
 pub struct Leaves<'a> {
+    versions: Versions,
     file: &'a [u8],
     place: u64,
     ends: Vec<u64>,
 }
 
 /// Begins a pass at the first byte of a file.
-pub fn leaves(file: &[u8]) -> Result<Leaves<'_>, Refusal> {
+pub fn leaves(versions: Versions, file: &[u8]) -> Result<Leaves<'_>, Refusal> {
     let length = file.len() as u64;
     check_size(length)?;
     Ok(Leaves {
+        versions,
         file,
         place: 0,
         ends: vec![length],
@@ -55,7 +57,7 @@ impl Leaves<'_> {
             if self.ends.len() > DEEPEST {
                 return Err(Reason::Deep.at(place));
             }
-            let label = Label::read_at(self.file, place, end)?;
+            let label = Label::read_at(self.versions, self.file, place, end)?;
             let start = place + LABEL_BYTES;
             if label.length > end - start {
                 return Err(Reason::Overrun.at(place));
@@ -90,15 +92,20 @@ impl Iterator for Leaves<'_> {
 }
 
 /// Checks a whole file and answers how many rows it has.
-pub fn check(file: &[u8]) -> Result<u64, Refusal> {
-    leaves(file)?.try_fold(0, |rows, leaf| leaf.map(|_| rows + 1))
+pub fn check(versions: Versions, file: &[u8]) -> Result<u64, Refusal> {
+    leaves(versions, file)?.try_fold(0, |rows, leaf| leaf.map(|_| rows + 1))
 }
 
 /// Reads a window of row `number` by passing through the file from its first
 /// byte. The rest of the file is passed too, as a fault anywhere refuses it.
-pub fn read_row(file: &[u8], number: u64, window: Window) -> Result<Part<'_>, Refusal> {
+pub fn read_row(
+    versions: Versions,
+    file: &[u8],
+    number: u64,
+    window: Window,
+) -> Result<Part<'_>, Refusal> {
     let mut wanted = None;
-    for (count, leaf) in (0u64..).zip(leaves(file)?) {
+    for (count, leaf) in (0u64..).zip(leaves(versions, file)?) {
         let leaf = leaf?;
         if count == number {
             wanted = Some(leaf.row);
@@ -110,13 +117,13 @@ pub fn read_row(file: &[u8], number: u64, window: Window) -> Result<Part<'_>, Re
 
 /// Gives the first row from a place on, whole. A place beyond the file has no
 /// row; what else stands in the way is what the walk meets.
-pub fn row_from(file: &[u8], from: u64) -> Result<Part<'_>, Refusal> {
+pub fn row_from(versions: Versions, file: &[u8], from: u64) -> Result<Part<'_>, Refusal> {
     let end = file.len() as u64;
     check_size(end)?;
     if from > end {
         return Err(Reason::NoRow.at_start());
     }
-    let row = walk(file, from, 0)?;
+    let row = walk(versions, file, from, 0)?;
     Window::new(0, row.length).show(file, row)
 }
 
@@ -125,12 +132,17 @@ pub fn row_from(file: &[u8], from: u64) -> Result<Part<'_>, Refusal> {
 ///
 /// The walk knows nothing of depth: it enters each group it meets, ignores how
 /// long the group says it is, and measures leaves against the end of the file.
-pub(crate) fn walk(file: &[u8], from: u64, leaves_before: u64) -> Result<Row, Refusal> {
+pub(crate) fn walk(
+    versions: Versions,
+    file: &[u8],
+    from: u64,
+    leaves_before: u64,
+) -> Result<Row, Refusal> {
     let end = file.len() as u64;
     let mut place = from;
     let mut leaves_before = leaves_before;
     while place < end {
-        let label = Label::read_at(file, place, end)?;
+        let label = Label::read_at(versions, file, place, end)?;
         let start = place + LABEL_BYTES;
         if label.is_group() {
             place = start;
@@ -155,11 +167,14 @@ pub(crate) fn walk(file: &[u8], from: u64, leaves_before: u64) -> Result<Row, Re
 mod tests {
     use super::*;
 
+    const FIRST: Versions = Versions::First;
+    const BOTH: Versions = Versions::Both;
+
     #[test]
     fn an_empty_file_has_no_row() {
-        assert_eq!(check(b""), Ok(0));
+        assert_eq!(check(FIRST, b""), Ok(0));
         assert_eq!(
-            read_row(b"", 0, Window::new(0, 0)),
+            read_row(FIRST, b"", 0, Window::new(0, 0)),
             Err(Reason::NoRow.at_start())
         );
     }
@@ -168,25 +183,25 @@ mod tests {
     fn a_late_fault_refuses_an_early_row() {
         let file = b"NJPL1I00DEMO00000003abcNJPL1I00DEMO0000000x";
         let refusal = Err(Reason::BadLength.at(23));
-        assert_eq!(read_row(file, 0, Window::new(0, 1)), refusal);
-        assert_eq!(read_row(file, 9, Window::new(9, 9)), refusal);
+        assert_eq!(read_row(FIRST, file, 0, Window::new(0, 1)), refusal);
+        assert_eq!(read_row(FIRST, file, 9, Window::new(9, 9)), refusal);
     }
 
     #[test]
     fn rows_are_numbered_across_groups() {
         let file = b"CCSD1Z00000100000043NJPL1I00DEMO00000003abcNJPL1I00DEMO00000000\
                      CCSD1Z00000100000000NJPL1K00LAST00000002xy";
-        assert_eq!(check(file), Ok(3));
-        let part = read_row(file, 2, Window::new(1, 1)).unwrap();
+        assert_eq!(check(FIRST, file), Ok(3));
+        let part = read_row(FIRST, file, 2, Window::new(1, 1)).unwrap();
         assert_eq!((part.place, part.bytes), (104, &b"y"[..]));
-        let empty = read_row(file, 1, Window::new(0, 0)).unwrap();
+        let empty = read_row(FIRST, file, 1, Window::new(0, 0)).unwrap();
         assert_eq!((empty.place, empty.bytes), (63, &b""[..]));
         assert_eq!(
-            read_row(file, 1, Window::new(0, 1)),
+            read_row(FIRST, file, 1, Window::new(0, 1)),
             Err(Reason::NoPart.at_start())
         );
         assert_eq!(
-            read_row(file, 3, Window::new(0, 0)),
+            read_row(FIRST, file, 3, Window::new(0, 0)),
             Err(Reason::NoRow.at_start())
         );
     }
@@ -195,15 +210,15 @@ mod tests {
     fn fill_after_the_last_object_is_no_part_of_a_file() {
         let mut file = b"NJPL1I00DEMO00000000".to_vec();
         file.extend([b'^'; 19]);
-        assert_eq!(check(&file), Err(Reason::Short.at(20)));
+        assert_eq!(check(FIRST, &file), Err(Reason::Short.at(20)));
         file.push(b'^');
-        assert_eq!(check(&file), Err(Reason::BadLabel.at(20)));
+        assert_eq!(check(FIRST, &file), Err(Reason::BadLabel.at(20)));
     }
 
     #[test]
     fn a_label_inside_a_leaf_is_only_bytes() {
         let file = b"NJPL1I00DEMO00000020NJPL1I00DEMO00000000";
-        assert_eq!(check(file), Ok(1));
+        assert_eq!(check(FIRST, file), Ok(1));
     }
 
     #[test]
@@ -213,7 +228,7 @@ mod tests {
             file.extend(format!("CCSD1Z000001{:08}", left * 20 + 1).bytes());
         }
         file.push(b'x');
-        assert_eq!(check(&file), Err(Reason::Deep.at(160)));
+        assert_eq!(check(FIRST, &file), Err(Reason::Deep.at(160)));
     }
 
     #[test]
@@ -221,8 +236,8 @@ mod tests {
         for class in ['Z', 'U', 'F'] {
             let set = format!("CCSD1{class}00000100000043");
             let file = set + "NJPL1I00DEMO00000003abcNJPL1E00DEMO00000000";
-            assert_eq!(check(file.as_bytes()), Ok(2));
-            let part = read_row(file.as_bytes(), 0, Window::new(0, 3)).unwrap();
+            assert_eq!(check(FIRST, file.as_bytes()), Ok(2));
+            let part = read_row(FIRST, file.as_bytes(), 0, Window::new(0, 3)).unwrap();
             assert_eq!((part.place, part.bytes), (40, &b"abc"[..]));
             assert_eq!(from(file.as_bytes(), 43), Ok((63, &b""[..])));
         }
@@ -239,7 +254,7 @@ mod tests {
                 ("NJPL1I00DEMO00000001", Reason::Overrun),
             ] {
                 let file = format!("CCSD1{class}000001{:08}{value}y", value.len());
-                assert_eq!(check(file.as_bytes()), Err(reason.at(20)), "{file}");
+                assert_eq!(check(FIRST, file.as_bytes()), Err(reason.at(20)), "{file}");
             }
         }
     }
@@ -247,10 +262,10 @@ mod tests {
     #[test]
     fn lengths_behind_spaces() {
         let file = b"CCSD1Z000001      43NJPL1I00DEMO       3abcNJPL1I00DEMO   00000";
-        assert_eq!(check(file), Ok(2));
-        let part = read_row(file, 0, Window::new(1, 2)).unwrap();
+        assert_eq!(check(FIRST, file), Ok(2));
+        let part = read_row(FIRST, file, 0, Window::new(1, 2)).unwrap();
         assert_eq!((part.place, part.bytes), (41, &b"bc"[..]));
-        let spaces: Vec<u8> = leaves(file)
+        let spaces: Vec<u8> = leaves(FIRST, file)
             .unwrap()
             .map(|leaf| leaf.unwrap().label.spaces)
             .collect();
@@ -272,12 +287,12 @@ mod tests {
                 Reason::BadLength.at(20),
             ),
         ] {
-            assert_eq!(check(file), Err(refusal));
+            assert_eq!(check(FIRST, file), Err(refusal));
         }
     }
 
     fn from(file: &[u8], place: u64) -> Result<(u64, &[u8]), Refusal> {
-        row_from(file, place).map(|part| (part.place, part.bytes))
+        row_from(FIRST, file, place).map(|part| (part.place, part.bytes))
     }
 
     #[test]
@@ -330,5 +345,99 @@ mod tests {
     fn going_on_inside_a_value_takes_its_bytes_for_labels() {
         let file = b"NJPL1I00DEMO00000023NJPL1I00DEMO00000003abc";
         assert_eq!(from(file, 20), Ok((40, &b"abc"[..])));
+    }
+
+    /// A label of version 2.
+    fn label_2(head: &[u8; 12], length: u64) -> Vec<u8> {
+        [&head[..], &length.to_be_bytes()].concat()
+    }
+
+    fn group_2(inside: &[u8]) -> Vec<u8> {
+        [
+            label_2(b"CCSD2Z000001", inside.len() as u64),
+            inside.to_vec(),
+        ]
+        .concat()
+    }
+
+    fn leaf_2(value: &[u8]) -> Vec<u8> {
+        [label_2(b"NJPL2I00DEMO", value.len() as u64), value.to_vec()].concat()
+    }
+
+    #[test]
+    fn both_versions_in_one_another() {
+        let old = b"NJPL1I00DEMO00000003abc";
+        let rows = [leaf_2(b"xy"), old.to_vec(), leaf_2(b"")].concat();
+        let outer = format!("CCSD1U000001{:08}", rows.len()).into_bytes();
+        for file in [rows.clone(), group_2(&rows), [outer, rows].concat()] {
+            let front = file.len() - 65;
+            assert_eq!(check(BOTH, &file), Ok(3));
+            let part = read_row(BOTH, &file, 1, Window::new(1, 2)).unwrap();
+            assert_eq!((part.place, part.bytes), (front as u64 + 43, &b"bc"[..]));
+            let part = row_from(BOTH, &file, part.place + 2).unwrap();
+            assert_eq!((part.place, part.bytes), (file.len() as u64, &b""[..]));
+            let refused = Reason::BadLabel.at(if file[4] == b'1' { 20 } else { 0 });
+            assert_eq!(check(FIRST, &file), Err(refused));
+            assert_eq!(read_row(FIRST, &file, 0, Window::new(0, 0)), Err(refused));
+            assert_eq!(row_from(FIRST, &file, 0), Err(refused));
+        }
+    }
+
+    /// Lengths that would come out right, or small, if they were cut or if a place were added to
+    /// them. The value has 3 bytes, or 23 in the group.
+    #[test]
+    fn binary_lengths_do_not_turn() {
+        let cut = [31, 32, 63].map(|bit| 1u64 << bit);
+        let cut = cut.into_iter().flat_map(|n| [n - 1, n, n + 3, n + 23]);
+        let turned = [1, 2, 17, 20, 23, 37, 40, 43].map(|n| 0u64.wrapping_sub(n));
+        for length in cut.chain(turned).chain([24, 24 << 8, 3 << 56, 23 << 56]) {
+            let leaf = [label_2(b"NJPL2I00DEMO", length), b"abc".to_vec()].concat();
+            for (file, place) in [(group_2(&leaf), 20), (leaf, 0)] {
+                let overrun = Reason::Overrun.at(place);
+                assert_eq!(check(BOTH, &file), Err(overrun));
+                assert_eq!(row_from(BOTH, &file, 0), Err(overrun));
+            }
+            let row = b"NJPL1I00DEMO00000003abc".to_vec();
+            let group = [label_2(b"CCSD2Z000001", length), row].concat();
+            assert_eq!(check(BOTH, &group), Err(Reason::Overrun.at(0)));
+            let row = row_from(BOTH, &group, 0).unwrap();
+            assert_eq!((row.place, row.bytes), (40, &b"abc"[..]));
+        }
+    }
+
+    #[test]
+    fn a_late_label_of_version_2_is_a_late_fault() {
+        let file = [b"NJPL1I00DEMO00000003abc".to_vec(), leaf_2(b"xy")].concat();
+        assert_eq!(check(BOTH, &file), Ok(2));
+        assert_eq!(check(FIRST, &file), Err(Reason::BadLabel.at(23)));
+        assert_eq!(from(&file, 0), Ok((20, &b"abc"[..])));
+        assert_eq!(from(&file, 23), Err(Reason::BadLabel.at(23)));
+        assert_eq!(row_from(BOTH, &file, 23).unwrap().bytes, b"xy");
+    }
+
+    #[test]
+    fn the_version_says_which_length_it_is() {
+        // Digits behind a 2 are a large number; a binary number behind a 1 is none.
+        let digits = b"NJPL2I00DEMO00000003abc";
+        assert_eq!(check(BOTH, digits), Err(Reason::Overrun.at(0)));
+        let mut binary = leaf_2(b"abc");
+        binary[4] = b'1';
+        assert_eq!(check(BOTH, &binary), Err(Reason::BadLength.at(0)));
+        let mut group = group_2(b"");
+        group[4] = b'1';
+        assert_eq!(row_from(BOTH, &group, 0), Err(Reason::BadLength.at(0)));
+    }
+
+    #[test]
+    fn depth_does_not_depend_on_the_version() {
+        let mut file = Vec::new();
+        for depth in 0..8 {
+            file = match depth % 2 {
+                0 => group_2(&file),
+                _ => [format!("CCSD1F000001{:08}", file.len()).as_bytes(), &file].concat(),
+            };
+        }
+        assert_eq!(check(BOTH, &file), Ok(0));
+        assert_eq!(check(BOTH, &group_2(&file)), Err(Reason::Deep.at(160)));
     }
 }

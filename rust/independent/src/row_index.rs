@@ -1,6 +1,7 @@
 //! The index of a labelled file, and the jump that uses one.
 
 use crate::check_size;
+use crate::label::Versions;
 use crate::labelled::{self, leaves, walk};
 use crate::refusal::{Reason, Refusal};
 use crate::window::{Part, Window};
@@ -16,22 +17,22 @@ pub struct Built {
 }
 
 /// Writes the index of a file to the front of `list`.
-pub fn build(file: &[u8], list: &mut [u32]) -> Result<Built, Refusal> {
-    let rows = labelled::check(file)?;
+pub fn build(versions: Versions, file: &[u8], list: &mut [u32]) -> Result<Built, Refusal> {
+    let rows = labelled::check(versions, file)?;
     let entries = rows.div_ceil(GROUP_ROWS);
     if (list.len() as u64) < entries {
         return Err(Reason::Small.at_start());
     }
-    for (slot, entry) in list.iter_mut().zip(entries_of(file)?) {
+    for (slot, entry) in list.iter_mut().zip(entries_of(versions, file)?) {
         *slot = entry?;
     }
     Ok(Built { entries, rows })
 }
 
 /// Accepts a list that is exactly the index of an accepted file.
-pub fn check(file: &[u8], list: &[u32]) -> Result<(), Refusal> {
-    labelled::check(file)?;
-    if entries_of(file)?.eq(list.iter().map(|&entry| Ok(entry))) {
+pub fn check(versions: Versions, file: &[u8], list: &[u32]) -> Result<(), Refusal> {
+    labelled::check(versions, file)?;
+    if entries_of(versions, file)?.eq(list.iter().map(|&entry| Ok(entry))) {
         Ok(())
     } else {
         Err(Reason::BadIndex.at_start())
@@ -40,6 +41,7 @@ pub fn check(file: &[u8], list: &[u32]) -> Result<(), Refusal> {
 
 /// Reads a window of row `number` by walking on from the entry of its group.
 pub fn jump<'a>(
+    versions: Versions,
     file: &'a [u8],
     list: &[u32],
     number: u64,
@@ -55,14 +57,17 @@ pub fn jump<'a>(
     if place > end {
         return Err(Reason::BadIndex.at_start());
     }
-    let row = walk(file, place, number % GROUP_ROWS)?;
+    let row = walk(versions, file, place, number % GROUP_ROWS)?;
     window.show(file, row)
 }
 
 /// The label places of rows 0, 16, 32 and so on. They fit 32 bits because the
 /// size of the file does.
-fn entries_of(file: &[u8]) -> Result<impl Iterator<Item = Result<u32, Refusal>> + '_, Refusal> {
-    Ok(leaves(file)?
+fn entries_of(
+    versions: Versions,
+    file: &[u8],
+) -> Result<impl Iterator<Item = Result<u32, Refusal>> + '_, Refusal> {
+    Ok(leaves(versions, file)?
         .step_by(GROUP_ROWS as usize)
         .map(|leaf| leaf.map(|leaf| leaf.place as u32)))
 }
@@ -70,6 +75,9 @@ fn entries_of(file: &[u8]) -> Result<impl Iterator<Item = Result<u32, Refusal>> 
 #[cfg(test)]
 mod tests {
     use super::*;
+
+    const FIRST: Versions = Versions::First;
+    const BOTH: Versions = Versions::Both;
 
     const ALL: Window = Window { first: 0, count: 0 };
 
@@ -89,15 +97,18 @@ mod tests {
                 entries,
                 rows: rows.into(),
             };
-            assert_eq!(build(&file, &mut list), Ok(built));
+            assert_eq!(build(FIRST, &file, &mut list), Ok(built));
             let used = entries as usize;
             assert_eq!(list[..used], [0, 336, 672][..used]);
             assert!(list[used..].iter().all(|&entry| entry == 7));
-            assert_eq!(check(&file, &list[..used]), Ok(()));
-            assert_eq!(check(&file, &list), Err(Reason::BadIndex.at_start()));
+            assert_eq!(check(FIRST, &file, &list[..used]), Ok(()));
+            assert_eq!(check(FIRST, &file, &list), Err(Reason::BadIndex.at_start()));
             if used > 0 {
                 let shorter = &list[..used - 1];
-                assert_eq!(check(&file, shorter), Err(Reason::BadIndex.at_start()));
+                assert_eq!(
+                    check(FIRST, &file, shorter),
+                    Err(Reason::BadIndex.at_start())
+                );
             }
         }
     }
@@ -106,7 +117,10 @@ mod tests {
     fn a_short_list_is_left_alone() {
         let file = flat(17);
         let mut list = [7; 1];
-        assert_eq!(build(&file, &mut list), Err(Reason::Small.at_start()));
+        assert_eq!(
+            build(FIRST, &file, &mut list),
+            Err(Reason::Small.at_start())
+        );
         assert_eq!(list, [7]);
     }
 
@@ -114,22 +128,28 @@ mod tests {
     fn faults_come_before_the_list() {
         let file = [0; 19];
         let mut list = [7; 1];
-        assert_eq!(build(&file, &mut []), Err(Reason::Short.at(0)));
-        assert_eq!(build(&file, &mut list), Err(Reason::Short.at(0)));
-        assert_eq!(check(&file, &list), Err(Reason::Short.at(0)));
+        assert_eq!(build(FIRST, &file, &mut []), Err(Reason::Short.at(0)));
+        assert_eq!(build(FIRST, &file, &mut list), Err(Reason::Short.at(0)));
+        assert_eq!(check(FIRST, &file, &list), Err(Reason::Short.at(0)));
         assert_eq!(list, [7]);
     }
 
     #[test]
     fn a_missing_entry_hides_every_fault() {
-        assert_eq!(jump(&[0; 30], &[], 0, ALL), Err(Reason::NoRow.at_start()));
-        assert_eq!(jump(&[0; 30], &[0], 16, ALL), Err(Reason::NoRow.at_start()));
         assert_eq!(
-            jump(&[0; 30], &[0], u64::MAX, ALL),
+            jump(FIRST, &[0; 30], &[], 0, ALL),
             Err(Reason::NoRow.at_start())
         );
         assert_eq!(
-            jump(&flat(1), &[0], 1 << 36, ALL),
+            jump(FIRST, &[0; 30], &[0], 16, ALL),
+            Err(Reason::NoRow.at_start())
+        );
+        assert_eq!(
+            jump(FIRST, &[0; 30], &[0], u64::MAX, ALL),
+            Err(Reason::NoRow.at_start())
+        );
+        assert_eq!(
+            jump(FIRST, &flat(1), &[0], 1 << 36, ALL),
             Err(Reason::NoRow.at_start())
         );
     }
@@ -137,46 +157,58 @@ mod tests {
     #[test]
     fn entries_at_and_beyond_the_end() {
         let file = flat(1);
-        assert_eq!(jump(&file, &[21], 0, ALL), Err(Reason::NoRow.at_start()));
-        assert_eq!(jump(&file, &[22], 0, ALL), Err(Reason::BadIndex.at_start()));
         assert_eq!(
-            jump(&file, &[u32::MAX], 0, ALL),
+            jump(FIRST, &file, &[21], 0, ALL),
+            Err(Reason::NoRow.at_start())
+        );
+        assert_eq!(
+            jump(FIRST, &file, &[22], 0, ALL),
             Err(Reason::BadIndex.at_start())
         );
-        assert_eq!(jump(&file, &[20], 0, ALL), Err(Reason::Short.at(20)));
+        assert_eq!(
+            jump(FIRST, &file, &[u32::MAX], 0, ALL),
+            Err(Reason::BadIndex.at_start())
+        );
+        assert_eq!(jump(FIRST, &file, &[20], 0, ALL), Err(Reason::Short.at(20)));
     }
 
     #[test]
     fn the_walk_enters_groups_whatever_their_length() {
         let file = b"CCSD1Z00000199999999CCSD1Z00000100000000NJPL1I00DEMO00000003abc";
-        let part = jump(file, &[0], 0, Window::new(0, 3)).unwrap();
+        let part = jump(FIRST, file, &[0], 0, Window::new(0, 3)).unwrap();
         assert_eq!((part.place, part.bytes), (60, &b"abc"[..]));
         let bad = b"CCSD1Z0000010000x000NJPL1I00DEMO00000003abc";
-        assert_eq!(jump(bad, &[0], 0, ALL), Err(Reason::BadLength.at(0)));
+        assert_eq!(jump(FIRST, bad, &[0], 0, ALL), Err(Reason::BadLength.at(0)));
         let deep = b"CCSD1Z00000100000000".repeat(12);
-        assert_eq!(jump(&deep, &[0], 0, ALL), Err(Reason::NoRow.at_start()));
+        assert_eq!(
+            jump(FIRST, &deep, &[0], 0, ALL),
+            Err(Reason::NoRow.at_start())
+        );
     }
 
     #[test]
     fn the_walk_reads_lengths_behind_spaces() {
         let file = b"CCSD1Z000001 9999999NJPL1I00DEMO       2xyNJPL1I00DEMO  000003abc";
-        let part = jump(file, &[0], 1, Window::new(0, 3)).unwrap();
+        let part = jump(FIRST, file, &[0], 1, Window::new(0, 3)).unwrap();
         assert_eq!((part.place, part.bytes), (62, &b"abc"[..]));
         let bad = b"CCSD1Z000001        NJPL1I00DEMO       3abc";
-        assert_eq!(jump(bad, &[0], 0, ALL), Err(Reason::BadLength.at(0)));
+        assert_eq!(jump(FIRST, bad, &[0], 0, ALL), Err(Reason::BadLength.at(0)));
         let bad = b"CCSD1Z000001       0NJPL1I00DEMO0000003 abc";
-        assert_eq!(jump(bad, &[0], 0, ALL), Err(Reason::BadLength.at(20)));
+        assert_eq!(
+            jump(FIRST, bad, &[0], 0, ALL),
+            Err(Reason::BadLength.at(20))
+        );
     }
 
     #[test]
     fn a_leaf_is_measured_against_the_file() {
         // The group claims to be empty, and the leaf runs past it.
         let file = b"CCSD1Z00000100000000NJPL1I00DEMO00000003abc";
-        let part = jump(file, &[0], 0, Window::new(2, 1)).unwrap();
+        let part = jump(FIRST, file, &[0], 0, Window::new(2, 1)).unwrap();
         assert_eq!((part.place, part.bytes), (42, &b"c"[..]));
         let long = b"CCSD1Z00000100000000NJPL1I00DEMO00000004abc";
         assert_eq!(
-            jump(long, &[0], 0, Window::new(9, 9)),
+            jump(FIRST, long, &[0], 0, Window::new(9, 9)),
             Err(Reason::Overrun.at(20))
         );
     }
@@ -184,16 +216,71 @@ mod tests {
     #[test]
     fn an_entry_into_a_value_is_followed() {
         let file = b"NJPL1I00DEMO00000023NJPL1I00DEMO00000003abc";
-        let part = jump(file, &[20], 0, Window::new(0, 3)).unwrap();
+        let part = jump(FIRST, file, &[20], 0, Window::new(0, 3)).unwrap();
         assert_eq!((part.place, part.bytes), (40, &b"abc"[..]));
-        assert_eq!(jump(file, &[1], 0, ALL), Err(Reason::BadLabel.at(1)));
+        assert_eq!(jump(FIRST, file, &[1], 0, ALL), Err(Reason::BadLabel.at(1)));
     }
 
     #[test]
     fn what_the_walk_does_not_meet_is_no_fault() {
         let mut file = flat(2);
         file.extend([0; 5]);
-        assert!(jump(&file, &[0], 1, ALL).is_ok());
-        assert_eq!(jump(&file, &[0], 2, ALL), Err(Reason::Short.at(42)));
+        assert!(jump(FIRST, &file, &[0], 1, ALL).is_ok());
+        assert_eq!(jump(FIRST, &file, &[0], 2, ALL), Err(Reason::Short.at(42)));
+    }
+
+    /// So many empty leaves, of both versions in turn, in a group of version 2.
+    fn mixed(rows: usize) -> Vec<u8> {
+        let mut file = b"CCSD2Z000001".to_vec();
+        file.extend((20 * rows as u64).to_be_bytes());
+        let labels = [b"NJPL1I00DEMO00000000", b"NJPL2I00DEMO\0\0\0\0\0\0\0\0"];
+        file.extend(labels.into_iter().cycle().take(rows).flatten());
+        file
+    }
+
+    #[test]
+    fn an_index_over_both_versions() {
+        let file = mixed(33);
+        let mut list = [7; 4];
+        let built = build(BOTH, &file, &mut list).unwrap();
+        assert_eq!((built.entries, built.rows), (3, 33));
+        assert_eq!(list, [20, 340, 660, 7]);
+        assert_eq!(check(BOTH, &file, &list[..3]), Ok(()));
+        for row in 0..33 {
+            let part = jump(BOTH, &file, &list[..3], row, ALL).unwrap();
+            assert_eq!(part.place, 40 + 20 * row);
+        }
+        let refused = Reason::BadLabel.at(0);
+        assert_eq!(build(FIRST, &file, &mut list), Err(refused));
+        assert_eq!(check(FIRST, &file, &list[..3]), Err(refused));
+        assert_eq!(list, [20, 340, 660, 7]);
+    }
+
+    /// Version 1 only: what the walk does not meet is no fault to it.
+    #[test]
+    fn the_walk_is_told_the_versions_too() {
+        let file = mixed(3);
+        let part = jump(FIRST, &file, &[20], 0, ALL).unwrap();
+        assert_eq!(part.place, 40);
+        let refused = jump(FIRST, &file, &[20], 1, ALL);
+        assert_eq!(refused, Err(Reason::BadLabel.at(40)));
+        let refused = jump(FIRST, &file, &[0], 0, ALL);
+        assert_eq!(refused, Err(Reason::BadLabel.at(0)));
+    }
+
+    #[test]
+    fn the_walk_enters_groups_whatever_their_binary_length() {
+        for length in [0, 1, 63, 64, 1 << 32, 1 << 63, u64::MAX - 19, u64::MAX] {
+            let mut file = mixed(3);
+            file[12..20].copy_from_slice(&u64::to_be_bytes(length));
+            for row in 0..3 {
+                let part = jump(BOTH, &file, &[0], row, ALL).unwrap();
+                assert_eq!(part.place, 40 + 20 * row);
+            }
+            assert_eq!(
+                jump(BOTH, &file, &[0], 3, ALL),
+                Err(Reason::NoRow.at_start())
+            );
+        }
     }
 }
