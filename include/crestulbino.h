@@ -15,6 +15,12 @@
  *  - outputs overlap neither one another nor an input, and nobody else writes to an input while a call runs;
  *  - a file is of the kind that the call's name says: no call can tell the kinds apart.
  *
+ * A label is of version 1 or 2, as its byte 4 says, '1' or '2', and a file may mix them, one inside the other too. Version 1 has
+ * its length in eight digits, with spaces for those in front or without; version 2 has it as a binary number of 64 bits, the
+ * most significant byte first. Every call that reads labels is told by version_2 whether version 2 is allowed beside version 1;
+ * if not, a label of version 2 is BADLABEL. Take one choice throughout for what belongs together: the check of a file, its
+ * index and the check of that, reading and the jump.
+ *
  * A place is the number of bytes before it in what was lent. A row's answer is the place of its window's first byte, and how many
  * bytes the window shows: they are file[place] to file[place + shown - 1]. Nothing is copied.
  *
@@ -26,6 +32,10 @@
 
 #include <stddef.h>
 #include <stdint.h>
+
+#ifndef __cplusplus
+#include <stdbool.h>
+#endif
 
 #ifdef __cplusplus
 extern "C" {
@@ -83,8 +93,8 @@ static inline crest_refusal_words crest_words_of(uint64_t number)
     static const crest_refusal_words words[] = {
         {"ANSWERED", "the call answered"},
         {"SHORT", "too few bytes remain for a label or a number"},
-        {"BADLABEL", "bytes 0 to 11 are not those of a label"},
-        {"BADLENGTH", "the label's length field is not spaces followed by digits"},
+        {"BADLABEL", "bytes 0 to 11 are not those of a label of an allowed version"},
+        {"BADLENGTH", "the length field of a version 1 label is not spaces followed by digits"},
         {"OVERRUN", "the value ends beyond its enclosing value or the file"},
         {"DEEP", "a label stands deeper than depth 8"},
         {"NOROW", "no row has this number or begins from this place on"},
@@ -96,7 +106,7 @@ static inline crest_refusal_words crest_words_of(uint64_t number)
         {"RAGGED", "the waveform file is no multiple of 2,080 bytes"},
         {"BADKEPT", "these bytes are no kept index"},
         {"TOOBIG", "the file has more than 4,294,967,295 bytes, or the index too many entries to be kept"},
-        {"TOOLONG", "the label cannot hold a length of more than 99,999,999 bytes"},
+        {"TOOLONG", "a version 1 label cannot hold a length of more than 99,999,999 bytes"},
         {"NUMBER", "no refusal has this number"}
     };
     const uint64_t last = sizeof words / sizeof words[0] - 1;
@@ -109,7 +119,7 @@ static inline const char *crest_refusal_name(uint64_t number)
     return crest_words_of(number).name;
 }
 
-/* A refusal in words, as "bytes 0 to 11 are not those of a label". */
+/* A refusal in words, as "the lent output is too short". */
 static inline const char *crest_refusal_text(uint64_t number)
 {
     return crest_words_of(number).text;
@@ -118,31 +128,34 @@ static inline const char *crest_refusal_text(uint64_t number)
 /* ---- Labels ---- */
 
 /*
- * label::read_label. Reads the label at the front of bytes; what follows it is ignored. length is the number of bytes behind the
- * label that it claims, and is compared with nothing. spaces, 0 to 7, is how many spaces stand in front of the length's digits.
- * Refuses: SHORT, BADLABEL, BADLENGTH.
- * Writes: agency, class_, description, length, spaces.
+ * label::read_label. Reads the label at the front of bytes; what follows it is ignored. version is 1 or 2. length is the number of
+ * bytes behind the label that it claims, and is compared with nothing. spaces, 0 to 7, is how many spaces stand in front of the
+ * length's digits; in version 2 it is 0.
+ * Refuses: SHORT, BADLABEL; in version 1 BADLENGTH.
+ * Writes: agency, version, class_, description, length, spaces.
  */
-crest_result crest_read_label(const uint8_t *bytes, size_t bytes_len, uint8_t agency[4], uint8_t *class_,
-                              uint8_t description[4], uint64_t *length, uint8_t *spaces);
+crest_result crest_read_label(const uint8_t *bytes, size_t bytes_len, bool version_2, uint8_t agency[4], uint8_t *version,
+                              uint8_t *class_, uint8_t description[4], uint64_t *length, uint8_t *spaces);
 
 /*
- * label_writer::write_label. Writes a label of the twelve bytes head, for length bytes behind it, with the length in eight digits.
- * Refuses: BADLABEL (also where head_len is not 12), TOOLONG, SMALL.
+ * label_writer::write_label. Writes a label of this version, 1 or 2, with the twelve bytes head, for length bytes behind it. The
+ * length is written in eight digits in version 1, and in eight bytes in version 2, which takes any.
+ * Refuses: BADLABEL, also where head_len is not 12 or byte 4 of head does not agree with version, as none does with a number
+ * other than 1 and 2; in version 1 TOOLONG; SMALL.
  * Writes: the first 20 bytes of out; written, which is 20.
  */
-crest_result crest_write_label(const uint8_t *head, size_t head_len, uint64_t length, uint8_t *out, size_t out_len,
-                               uint64_t *written);
+crest_result crest_write_label(uint8_t version, const uint8_t *head, size_t head_len, uint64_t length, uint8_t *out,
+                               size_t out_len, uint64_t *written);
 
 /* ---- Files: check, read from the first byte, jump, go on ---- */
 
 /*
  * reader::check of a labelled file. Checks the whole file, as deep as it goes: objects of the classes Z, U and F hold further objects,
  * and the value of every other one is a row.
- * Refuses: TOOBIG; then at the first faulty label, with its place: DEEP, SHORT, BADLABEL, BADLENGTH, OVERRUN.
+ * Refuses: TOOBIG; then at the first faulty label, with its place: DEEP, SHORT, BADLABEL, in version 1 BADLENGTH, OVERRUN.
  * Writes: rows, how many rows the file has.
  */
-crest_result crest_check_labelled(const uint8_t *file, size_t file_len, uint64_t *rows);
+crest_result crest_check_labelled(const uint8_t *file, size_t file_len, bool version_2, uint64_t *rows);
 
 /*
  * reader::check of a waveform file.
@@ -157,8 +170,8 @@ crest_result crest_check_waveform(const uint8_t *file, size_t file_len, uint64_t
  * Refuses: as crest_check_labelled, wherever in the file the fault stands; then NOROW, NOPART.
  * Writes: place and shown; shown is count.
  */
-crest_result crest_read_row_labelled(const uint8_t *file, size_t file_len, uint64_t row, uint64_t first, uint64_t count,
-                                     uint64_t *place, uint64_t *shown);
+crest_result crest_read_row_labelled(const uint8_t *file, size_t file_len, bool version_2, uint64_t row, uint64_t first,
+                                     uint64_t count, uint64_t *place, uint64_t *shown);
 
 /*
  * reader::read_row of a waveform file. Passes 2,080 bytes for each earlier row.
@@ -169,14 +182,15 @@ crest_result crest_read_row_waveform(const uint8_t *file, size_t file_len, uint6
                                      uint64_t *place, uint64_t *shown);
 
 /*
- * reader::jump_row of a labelled file. Takes the entry of the row's group of 16 from list and walks on from there. With a list that
- * crest_check_index accepts, the answer is that of crest_read_row_labelled; with another one it is of no use to a reader.
+ * reader::jump_row of a labelled file. Takes the entry of the row's group of 16 from list and walks on from there. It passes the 20
+ * bytes of a label of class Z, U or F whatever length that claims, in either version. With a list that crest_check_index, told
+ * the same choice, accepts, the answer is that of crest_read_row_labelled; with another one it is of no use to a reader.
  * Refuses: TOOBIG; NOROW for a missing entry; BADINDEX for an entry beyond the file's length; then as the walk meets it,
- * SHORT, BADLABEL, BADLENGTH, OVERRUN with the label's place, or NOROW at the end of the file; NOPART.
+ * SHORT, BADLABEL, in version 1 BADLENGTH, OVERRUN with the label's place, or NOROW at the end of the file; NOPART.
  * Writes: place and shown; shown is count.
  */
-crest_result crest_jump_labelled(const uint8_t *file, size_t file_len, const uint32_t *list, size_t list_len, uint64_t row,
-                                 uint64_t first, uint64_t count, uint64_t *place, uint64_t *shown);
+crest_result crest_jump_labelled(const uint8_t *file, size_t file_len, bool version_2, const uint32_t *list, size_t list_len,
+                                 uint64_t row, uint64_t first, uint64_t count, uint64_t *place, uint64_t *shown);
 
 /*
  * reader::jump_row of a waveform file. Computes the row's place.
@@ -189,11 +203,12 @@ crest_result crest_jump_waveform(const uint8_t *file, size_t file_len, uint64_t 
 /*
  * reader::row_from of a labelled file. Gives the whole row whose label comes first from the place from on. To go through an accepted
  * file row by row, begin at 0 and go on at place + shown of each row, until NOROW.
- * Refuses: TOOBIG; NOROW for a place beyond the file's length; then as the walk meets it, SHORT, BADLABEL, BADLENGTH,
- * OVERRUN with the label's place, or NOROW at the end of the file.
+ * Refuses: TOOBIG; NOROW for a place beyond the file's length; then as the walk meets it, SHORT, BADLABEL, in version 1
+ * BADLENGTH, OVERRUN with the label's place, or NOROW at the end of the file.
  * Writes: place and shown; shown is the row's length.
  */
-crest_result crest_row_from_labelled(const uint8_t *file, size_t file_len, uint64_t from, uint64_t *place, uint64_t *shown);
+crest_result crest_row_from_labelled(const uint8_t *file, size_t file_len, bool version_2, uint64_t from, uint64_t *place,
+                                     uint64_t *shown);
 
 /*
  * reader::row_from of a waveform file. Gives the whole row that begins, with its prefix, at the place from. To go through a file row by
@@ -210,15 +225,15 @@ crest_result crest_row_from_waveform(const uint8_t *file, size_t file_len, uint6
  * Refuses: as crest_check_labelled; then SMALL.
  * Writes: the first entries numbers of list; entries and rows, how many of each the file has.
  */
-crest_result crest_build_index(const uint8_t *file, size_t file_len, uint32_t *list, size_t list_len, uint64_t *entries,
-                               uint64_t *rows);
+crest_result crest_build_index(const uint8_t *file, size_t file_len, bool version_2, uint32_t *list, size_t list_len,
+                               uint64_t *entries, uint64_t *rows);
 
 /*
  * row_index::check_index. Answers exactly when the file is accepted and the whole list is its index.
  * Refuses: as crest_check_labelled; then BADINDEX.
  * Writes: nothing.
  */
-crest_result crest_check_index(const uint8_t *file, size_t file_len, const uint32_t *list, size_t list_len);
+crest_result crest_check_index(const uint8_t *file, size_t file_len, bool version_2, const uint32_t *list, size_t list_len);
 
 /*
  * kept::keep. Writes an index as bytes to keep: 6, and 4 for each entry.

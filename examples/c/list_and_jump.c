@@ -1,5 +1,6 @@
 /*
- * Lists the rows of a labelled file, then builds its index, jumps to a row and shows COUNT of its bytes, from byte FIRST on:
+ * Lists the rows of a labelled file with labels of version 1, then builds its index, jumps to a row and shows COUNT of its bytes,
+ * from byte FIRST on:
  *
  *     cc -std=c11 -Wall -Wextra -Wpedantic -Iinclude examples/c/list_and_jump.c target/staticlib/libcapi.a -o list_and_jump
  *     ./list_and_jump crates/samples/data/volume_header.sfdu 1 10 7
@@ -61,7 +62,7 @@ static int list_rows(const lent_file *file)
     uint64_t from = 0;
     for (uint64_t row = 0;; row++) {
         uint64_t place, shown;
-        crest_result result = crest_row_from_labelled(file->bytes, file->length, from, &place, &shown);
+        crest_result result = crest_row_from_labelled(file->bytes, file->length, false, from, &place, &shown);
         if (result.refusal == CREST_NOROW) {
             return DONE;
         }
@@ -92,8 +93,8 @@ typedef struct wanted {
 static int jump(const lent_file *file, const uint32_t *list, size_t entries, wanted part)
 {
     uint64_t place, shown;
-    crest_result result = crest_jump_labelled(file->bytes, file->length, list, entries, part.row, part.first, part.count,
-                                              &place, &shown);
+    crest_result result = crest_jump_labelled(file->bytes, file->length, false, list, entries, part.row, part.first,
+                                              part.count, &place, &shown);
     if (result.refusal != 0) {
         return refused(result);
     }
@@ -110,7 +111,7 @@ static int index_and_jump(const lent_file *file, uint64_t rows, wanted part)
         return failed("calloc");
     }
     uint64_t entries, indexed;
-    crest_result result = crest_build_index(file->bytes, file->length, list, room, &entries, &indexed);
+    crest_result result = crest_build_index(file->bytes, file->length, false, list, room, &entries, &indexed);
     int status = result.refusal != 0 ? refused(result) : jump(file, list, (size_t)entries, part);
     free(list);
     return status;
@@ -119,7 +120,7 @@ static int index_and_jump(const lent_file *file, uint64_t rows, wanted part)
 static int show(const lent_file *file, wanted part)
 {
     uint64_t rows;
-    crest_result result = crest_check_labelled(file->bytes, file->length, &rows);
+    crest_result result = crest_check_labelled(file->bytes, file->length, false, &rows);
     if (result.refusal != 0) {
         return refused(result);
     }

@@ -26,18 +26,18 @@ pub(crate) struct Outcome {
 
 #[rustfmt::skip] // A line for a declaration, as in the header.
 unsafe extern "C" {
-    fn crest_read_label(bytes: *const u8, bytes_len: usize, agency: *mut [u8; 4], class_: *mut u8, description: *mut [u8; 4], length: *mut u64, spaces: *mut u8) -> Outcome;
-    fn crest_write_label(head: *const u8, head_len: usize, length: u64, out: *mut u8, out_len: usize, written: *mut u64) -> Outcome;
-    fn crest_check_labelled(file: *const u8, file_len: usize, rows: *mut u64) -> Outcome;
+    fn crest_read_label(bytes: *const u8, bytes_len: usize, version_2: bool, agency: *mut [u8; 4], version: *mut u8, class_: *mut u8, description: *mut [u8; 4], length: *mut u64, spaces: *mut u8) -> Outcome;
+    fn crest_write_label(version: u8, head: *const u8, head_len: usize, length: u64, out: *mut u8, out_len: usize, written: *mut u64) -> Outcome;
+    fn crest_check_labelled(file: *const u8, file_len: usize, version_2: bool, rows: *mut u64) -> Outcome;
     fn crest_check_waveform(file: *const u8, file_len: usize, rows: *mut u64) -> Outcome;
-    fn crest_read_row_labelled(file: *const u8, file_len: usize, row: u64, first: u64, count: u64, place: *mut u64, shown: *mut u64) -> Outcome;
+    fn crest_read_row_labelled(file: *const u8, file_len: usize, version_2: bool, row: u64, first: u64, count: u64, place: *mut u64, shown: *mut u64) -> Outcome;
     fn crest_read_row_waveform(file: *const u8, file_len: usize, row: u64, first: u64, count: u64, place: *mut u64, shown: *mut u64) -> Outcome;
-    fn crest_jump_labelled(file: *const u8, file_len: usize, list: *const u32, list_len: usize, row: u64, first: u64, count: u64, place: *mut u64, shown: *mut u64) -> Outcome;
+    fn crest_jump_labelled(file: *const u8, file_len: usize, version_2: bool, list: *const u32, list_len: usize, row: u64, first: u64, count: u64, place: *mut u64, shown: *mut u64) -> Outcome;
     fn crest_jump_waveform(file: *const u8, file_len: usize, row: u64, first: u64, count: u64, place: *mut u64, shown: *mut u64) -> Outcome;
-    fn crest_row_from_labelled(file: *const u8, file_len: usize, from: u64, place: *mut u64, shown: *mut u64) -> Outcome;
+    fn crest_row_from_labelled(file: *const u8, file_len: usize, version_2: bool, from: u64, place: *mut u64, shown: *mut u64) -> Outcome;
     fn crest_row_from_waveform(file: *const u8, file_len: usize, from: u64, place: *mut u64, shown: *mut u64) -> Outcome;
-    fn crest_build_index(file: *const u8, file_len: usize, list: *mut u32, list_len: usize, entries: *mut u64, rows: *mut u64) -> Outcome;
-    fn crest_check_index(file: *const u8, file_len: usize, list: *const u32, list_len: usize) -> Outcome;
+    fn crest_build_index(file: *const u8, file_len: usize, version_2: bool, list: *mut u32, list_len: usize, entries: *mut u64, rows: *mut u64) -> Outcome;
+    fn crest_check_index(file: *const u8, file_len: usize, version_2: bool, list: *const u32, list_len: usize) -> Outcome;
     fn crest_keep_index(list: *const u32, list_len: usize, out: *mut u8, out_len: usize, written: *mut u64) -> Outcome;
     fn crest_load_kept(bytes: *const u8, bytes_len: usize, list: *mut u32, list_len: usize, entries: *mut u64) -> Outcome;
     fn crest_sample(sample: u8) -> i64;
@@ -48,20 +48,25 @@ unsafe extern "C" {
 }
 
 #[inline]
+#[allow(clippy::too_many_arguments)]
 pub(crate) fn read_label(
     bytes: &[u8],
+    version_2: bool,
     agency: &mut [u8; 4],
+    version: &mut u8,
     class: &mut u8,
     description: &mut [u8; 4],
     length: &mut u64,
     spaces: &mut u8,
 ) -> Outcome {
-    // SAFETY: `bytes` is a shared slice with its length; `agency`, `class`, `description`, `length` and `spaces` are lent alone.
+    // SAFETY: `bytes` is a shared slice with its length; `agency`, `version`, `class`, `description`, `length` and `spaces` are lent alone.
     unsafe {
         crest_read_label(
             bytes.as_ptr(),
             bytes.len(),
+            version_2,
             agency,
+            version,
             class,
             description,
             length,
@@ -71,10 +76,17 @@ pub(crate) fn read_label(
 }
 
 #[inline]
-pub(crate) fn write_label(head: &[u8], length: u64, out: &mut [u8], written: &mut u64) -> Outcome {
+pub(crate) fn write_label(
+    version: u8,
+    head: &[u8],
+    length: u64,
+    out: &mut [u8],
+    written: &mut u64,
+) -> Outcome {
     // SAFETY: `head` is a shared slice with its length; `out` and `written` are lent alone.
     unsafe {
         crest_write_label(
+            version,
             head.as_ptr(),
             head.len(),
             length,
@@ -86,9 +98,9 @@ pub(crate) fn write_label(head: &[u8], length: u64, out: &mut [u8], written: &mu
 }
 
 #[inline]
-pub(crate) fn check_labelled(file: &[u8], rows: &mut u64) -> Outcome {
+pub(crate) fn check_labelled(file: &[u8], version_2: bool, rows: &mut u64) -> Outcome {
     // SAFETY: `file` is a shared slice with its length; `rows` is lent alone.
-    unsafe { crest_check_labelled(file.as_ptr(), file.len(), rows) }
+    unsafe { crest_check_labelled(file.as_ptr(), file.len(), version_2, rows) }
 }
 
 #[inline]
@@ -100,6 +112,7 @@ pub(crate) fn check_waveform(file: &[u8], rows: &mut u64) -> Outcome {
 #[inline]
 pub(crate) fn read_row_labelled(
     file: &[u8],
+    version_2: bool,
     row: u64,
     first: u64,
     count: u64,
@@ -107,7 +120,18 @@ pub(crate) fn read_row_labelled(
     shown: &mut u64,
 ) -> Outcome {
     // SAFETY: `file` is a shared slice with its length; `place` and `shown` are lent alone.
-    unsafe { crest_read_row_labelled(file.as_ptr(), file.len(), row, first, count, place, shown) }
+    unsafe {
+        crest_read_row_labelled(
+            file.as_ptr(),
+            file.len(),
+            version_2,
+            row,
+            first,
+            count,
+            place,
+            shown,
+        )
+    }
 }
 
 #[inline]
@@ -124,8 +148,10 @@ pub(crate) fn read_row_waveform(
 }
 
 #[inline]
+#[allow(clippy::too_many_arguments)]
 pub(crate) fn jump_labelled(
     file: &[u8],
+    version_2: bool,
     list: &[u32],
     row: u64,
     first: u64,
@@ -138,6 +164,7 @@ pub(crate) fn jump_labelled(
         crest_jump_labelled(
             file.as_ptr(),
             file.len(),
+            version_2,
             list.as_ptr(),
             list.len(),
             row,
@@ -165,12 +192,13 @@ pub(crate) fn jump_waveform(
 #[inline]
 pub(crate) fn row_from_labelled(
     file: &[u8],
+    version_2: bool,
     from: u64,
     place: &mut u64,
     shown: &mut u64,
 ) -> Outcome {
     // SAFETY: `file` is a shared slice with its length; `place` and `shown` are lent alone.
-    unsafe { crest_row_from_labelled(file.as_ptr(), file.len(), from, place, shown) }
+    unsafe { crest_row_from_labelled(file.as_ptr(), file.len(), version_2, from, place, shown) }
 }
 
 #[inline]
@@ -187,6 +215,7 @@ pub(crate) fn row_from_waveform(
 #[inline]
 pub(crate) fn build_index(
     file: &[u8],
+    version_2: bool,
     list: &mut [u32],
     entries: &mut u64,
     rows: &mut u64,
@@ -196,6 +225,7 @@ pub(crate) fn build_index(
         crest_build_index(
             file.as_ptr(),
             file.len(),
+            version_2,
             list.as_mut_ptr(),
             list.len(),
             entries,
@@ -205,9 +235,17 @@ pub(crate) fn build_index(
 }
 
 #[inline]
-pub(crate) fn check_index(file: &[u8], list: &[u32]) -> Outcome {
+pub(crate) fn check_index(file: &[u8], version_2: bool, list: &[u32]) -> Outcome {
     // SAFETY: `file` and `list` are shared slices with their lengths.
-    unsafe { crest_check_index(file.as_ptr(), file.len(), list.as_ptr(), list.len()) }
+    unsafe {
+        crest_check_index(
+            file.as_ptr(),
+            file.len(),
+            version_2,
+            list.as_ptr(),
+            list.len(),
+        )
+    }
 }
 
 #[inline]
@@ -282,38 +320,57 @@ mod tests {
     fn an_empty_slice_may_be_a_null_pointer() {
         const ANSWERED: Outcome = refused(0);
         let (mut one, mut two) = (7, 7);
-        let (mut agency, mut class, mut description, mut spaces) = ([7; 4], 7, [7; 4], 7);
+        let (mut agency, mut version, mut class) = ([7; 4], 7, 7);
+        let (mut description, mut spaces) = ([7; 4], 7);
         let (mut start, mut stop) = (7.0, 7.0);
-        let head = b"NJPL1I00DEMO";
-        // SAFETY: each pointer with a length is null with length 0, or that of `head` with its
+        let heads = [(1, b"NJPL1I00DEMO"), (2, b"NJPL2I00DEMO")];
+        // SAFETY: each pointer with a length is null with length 0, or that of a head with its
         // length; the others point to the variables above, no two of a call to the same.
         unsafe {
-            let label = crest_read_label(
-                null(),
-                0,
-                &mut agency,
-                &mut class,
-                &mut description,
-                &mut one,
-                &mut spaces,
-            );
-            assert_eq!(label, refused(1));
-            let written = crest_write_label(null(), 0, 0, null_mut(), 0, &mut one);
-            assert_eq!(written, refused(2));
-            let written = crest_write_label(head.as_ptr(), 12, 0, null_mut(), 0, &mut one);
-            assert_eq!(written, refused(8));
-            for read in [
-                crest_read_row_labelled,
-                crest_read_row_waveform,
-                crest_jump_waveform,
-            ] {
+            for version_2 in [false, true] {
+                let label = crest_read_label(
+                    null(),
+                    0,
+                    version_2,
+                    &mut agency,
+                    &mut version,
+                    &mut class,
+                    &mut description,
+                    &mut one,
+                    &mut spaces,
+                );
+                assert_eq!(label, refused(1));
+                let read =
+                    crest_read_row_labelled(null(), 0, version_2, 0, 0, 0, &mut one, &mut two);
+                assert_eq!(read, refused(6));
+                let jumped = crest_jump_labelled(
+                    null(),
+                    0,
+                    version_2,
+                    null(),
+                    0,
+                    0,
+                    0,
+                    0,
+                    &mut one,
+                    &mut two,
+                );
+                assert_eq!(jumped, refused(6));
+                let row = crest_row_from_labelled(null(), 0, version_2, 0, &mut one, &mut two);
+                assert_eq!(row, refused(6));
+            }
+            for (version, head) in heads {
+                let written = crest_write_label(version, null(), 0, 0, null_mut(), 0, &mut one);
+                assert_eq!(written, refused(2));
+                let head = head.as_ptr();
+                let written = crest_write_label(version, head, 12, 0, null_mut(), 0, &mut one);
+                assert_eq!(written, refused(8));
+            }
+            for read in [crest_read_row_waveform, crest_jump_waveform] {
                 assert_eq!(read(null(), 0, 0, 0, 0, &mut one, &mut two), refused(6));
             }
-            let jumped = crest_jump_labelled(null(), 0, null(), 0, 0, 0, 0, &mut one, &mut two);
-            assert_eq!(jumped, refused(6));
-            for row_from in [crest_row_from_labelled, crest_row_from_waveform] {
-                assert_eq!(row_from(null(), 0, 0, &mut one, &mut two), refused(6));
-            }
+            let row = crest_row_from_waveform(null(), 0, 0, &mut one, &mut two);
+            assert_eq!(row, refused(6));
             assert_eq!(crest_vax_f(null(), 0, &mut start), refused(1));
             assert_eq!(crest_vax_d(null(), 0, &mut start), refused(1));
             let opening = crest_opening(null(), 0, &mut one, &mut start, &mut stop);
@@ -323,16 +380,23 @@ mod tests {
             let loaded = crest_load_kept(null(), 0, null_mut(), 0, &mut one);
             assert_eq!(loaded, refused(13));
             assert_eq!((one, two, start, stop), (7, 7, 7.0, 7.0));
-            assert_eq!((agency, class, description, spaces), ([7; 4], 7, [7; 4], 7));
+            assert_eq!((agency, description), ([7; 4], [7; 4]));
+            assert_eq!((version, class, spaces), (7, 7, 7));
 
-            for check in [crest_check_labelled, crest_check_waveform] {
+            for version_2 in [false, true] {
+                (one, two) = (7, 7);
+                let checked = crest_check_labelled(null(), 0, version_2, &mut one);
+                assert_eq!((checked, one), (ANSWERED, 0));
                 one = 7;
-                assert_eq!((check(null(), 0, &mut one), one), (ANSWERED, 0));
+                let built =
+                    crest_build_index(null(), 0, version_2, null_mut(), 0, &mut one, &mut two);
+                assert_eq!((built, one, two), (ANSWERED, 0, 0));
+                let index = crest_check_index(null(), 0, version_2, null(), 0);
+                assert_eq!(index, ANSWERED);
             }
             one = 7;
-            let built = crest_build_index(null(), 0, null_mut(), 0, &mut one, &mut two);
-            assert_eq!((built, one, two), (ANSWERED, 0, 0));
-            assert_eq!(crest_check_index(null(), 0, null(), 0), ANSWERED);
+            let checked = crest_check_waveform(null(), 0, &mut one);
+            assert_eq!((checked, one), (ANSWERED, 0));
         }
     }
 }

@@ -1,15 +1,16 @@
 //! Files of both kinds: checked, read from the first byte, jumped into, gone through row by row.
 
 use crate::ffi::{self, Outcome};
+use crate::label::Versions;
 use crate::refusal::{other_version, Refused};
 use std::iter::FusedIterator;
 
 /// What a file is. The caller says so: no call can tell the kinds apart.
 #[derive(Clone, Copy, Debug, PartialEq, Eq, Hash)]
 pub enum Kind {
-    /// Objects with 20-byte CCSDS labels. Those of the classes `Z`, `U` and `F` hold further
-    /// objects; the values of all others are the rows.
-    Labelled,
+    /// Objects with 20-byte CCSDS labels of these versions. Those of the classes `Z`, `U` and `F`
+    /// hold further objects; the values of all others are the rows.
+    Labelled(Versions),
     /// Rows of 2,080 bytes: a prefix of 32, then 2,048 samples, which are the row.
     Waveform,
 }
@@ -60,14 +61,22 @@ impl Row<'_> {
 /// Checks a whole file and answers how many rows it has.
 ///
 /// Refuses: `TooBig`. Then for a labelled file, at its first faulty label: `Deep`, `Short`,
-/// `BadLabel`, `BadLength`, `Overrun`; for a waveform file: `Ragged`.
+/// `BadLabel`, also for a version that is not allowed, `BadLength` in version 1, `Overrun`; for a
+/// waveform file: `Ragged`.
 ///
 /// ```
-/// use crestulbino::{check, Kind, Refusal};
+/// use crestulbino::{check, Kind, Refusal, Versions};
 ///
-/// assert_eq!(check(Kind::Labelled, b"NJPL1I00DEMO00000003abc")?, 1);
+/// let (one, both) = (Kind::Labelled(Versions::One), Kind::Labelled(Versions::OneAndTwo));
+/// assert_eq!(check(one, b"NJPL1I00DEMO00000003abc")?, 1);
 /// let set_of_two = b"CCSD1U00SET100000043NJPL1I00DEMO00000003abcNJPL1I00DEMO00000000";
-/// assert_eq!(check(Kind::Labelled, set_of_two)?, 2);
+/// assert_eq!(check(one, set_of_two)?, 2);
+///
+/// let mixed = b"CCSD1U00SET100000023NJPL2I00DEMO\0\0\0\0\0\0\0\x03abc";
+/// assert_eq!(check(both, mixed)?, 1);
+/// let refused = check(one, mixed).unwrap_err();
+/// assert_eq!((refused.refusal, refused.place), (Refusal::BadLabel, 20));
+///
 /// assert_eq!(check(Kind::Waveform, &[0; 2 * 2_080])?, 2);
 /// let refused = check(Kind::Waveform, &[0; 2_079]).unwrap_err();
 /// assert_eq!(refused.refusal, Refusal::Ragged);
@@ -77,7 +86,7 @@ impl Row<'_> {
 pub fn check(kind: Kind, file: &[u8]) -> Result<usize, Refused> {
     let mut rows = 0;
     match kind {
-        Kind::Labelled => ffi::check_labelled(file, &mut rows),
+        Kind::Labelled(versions) => ffi::check_labelled(file, versions.version_2(), &mut rows),
         Kind::Waveform => ffi::check_waveform(file, &mut rows),
     }
     .result()?;
@@ -90,40 +99,51 @@ pub fn check(kind: Kind, file: &[u8]) -> Result<usize, Refused> {
 /// Refuses: as [`check`], wherever in the file the fault stands; `NoRow`; `NoPart`.
 ///
 /// ```
-/// use crestulbino::{read_row, Kind, Window};
+/// use crestulbino::{read_row, Kind, Versions, Window};
 ///
 /// let file = b"NJPL1I00DEMO00000003abcNJPL1I00DEMO00000002de";
-/// let row = read_row(Kind::Labelled, file, 1, Window::new(0, 2))?;
+/// let row = read_row(Kind::Labelled(Versions::One), file, 1, Window::new(0, 2))?;
 /// assert_eq!((row.place, row.bytes), (43, &b"de"[..]));
+///
+/// let mixed = b"NJPL1I00DEMO00000003abcNJPL2I00DEMO\0\0\0\0\0\0\0\x02de";
+/// assert_eq!(read_row(Kind::Labelled(Versions::OneAndTwo), mixed, 1, Window::new(0, 2))?, row);
 /// # Ok::<(), crestulbino::Refused>(())
 /// ```
 #[inline]
 pub fn read_row(kind: Kind, file: &[u8], row: usize, window: Window) -> Result<Row<'_>, Refused> {
     let (row, first, count) = (row as u64, window.first as u64, window.count as u64);
     shown(file, |place, shown| match kind {
-        Kind::Labelled => ffi::read_row_labelled(file, row, first, count, place, shown),
+        Kind::Labelled(versions) => {
+            let version_2 = versions.version_2();
+            ffi::read_row_labelled(file, version_2, row, first, count, place, shown)
+        }
         Kind::Waveform => ffi::read_row_waveform(file, row, first, count, place, shown),
     })
 }
 
 /// Reads a window of a row of a labelled file by its index: `list` is what
 /// [`build_index`](crate::build_index) wrote, or what [`check_index`](crate::check_index)
-/// accepts. With such a list the answer is that of [`read_row`]; with any other it is of no use.
+/// accepts, told the same versions. With such a list the answer is that of [`read_row`]; with any
+/// other it is of no use.
 ///
 /// Refuses: `TooBig`; `NoRow` for a missing entry; `BadIndex` for an entry beyond the file's
 /// length; what the walk from the entry meets, which is `Short`, `BadLabel`, `BadLength` or
 /// `Overrun` at a label, or `NoRow` at the file's end; `NoPart`.
 ///
 /// ```
-/// use crestulbino::{jump_labelled, Window};
+/// use crestulbino::{jump_labelled, Versions, Window};
 ///
 /// let file = b"NJPL1I00DEMO00000003abcNJPL1I00DEMO00000002de";
-/// let row = jump_labelled(file, &[0], 1, Window::new(1, 1))?;
+/// let row = jump_labelled(Versions::One, file, &[0], 1, Window::new(1, 1))?;
 /// assert_eq!((row.place, row.bytes), (44, &b"e"[..]));
+///
+/// let mixed = b"NJPL2I00DEMO\0\0\0\0\0\0\0\x03abcNJPL1I00DEMO00000002de";
+/// assert_eq!(jump_labelled(Versions::OneAndTwo, mixed, &[0], 1, Window::new(1, 1))?, row);
 /// # Ok::<(), crestulbino::Refused>(())
 /// ```
 #[inline]
 pub fn jump_labelled<'a>(
+    versions: Versions,
     file: &'a [u8],
     list: &[u32],
     row: usize,
@@ -131,7 +151,8 @@ pub fn jump_labelled<'a>(
 ) -> Result<Row<'a>, Refused> {
     let (row, first, count) = (row as u64, window.first as u64, window.count as u64);
     shown(file, |place, shown| {
-        ffi::jump_labelled(file, list, row, first, count, place, shown)
+        let version_2 = versions.version_2();
+        ffi::jump_labelled(file, version_2, list, row, first, count, place, shown)
     })
 }
 
@@ -166,20 +187,28 @@ pub fn jump_waveform(file: &[u8], row: usize, window: Window) -> Result<Row<'_>,
 /// 2,080, or at or beyond the file's end.
 ///
 /// ```
-/// use crestulbino::{row_from, Kind, Refusal};
+/// use crestulbino::{row_from, Kind, Refusal, Versions};
 ///
+/// let kind = Kind::Labelled(Versions::One);
 /// let file = b"CCSD1Z00000100000023NJPL1I00DEMO00000003abc";
-/// let row = row_from(Kind::Labelled, file, 0)?;
+/// let row = row_from(kind, file, 0)?;
 /// assert_eq!((row.place, row.bytes), (40, &b"abc"[..]));
-/// let refused = row_from(Kind::Labelled, file, row.end()).unwrap_err();
+/// let refused = row_from(kind, file, row.end()).unwrap_err();
 /// assert_eq!(refused.refusal, Refusal::NoRow);
+///
+/// // A label that opens a group is passed whatever length it claims.
+/// let both = Kind::Labelled(Versions::OneAndTwo);
+/// let mixed = b"CCSD2Z000001\xff\xff\xff\xff\xff\xff\xff\xffNJPL1I00DEMO00000003abc";
+/// assert_eq!(row_from(both, mixed, 0)?, row);
 /// # Ok::<(), crestulbino::Refused>(())
 /// ```
 #[inline]
 pub fn row_from(kind: Kind, file: &[u8], from: usize) -> Result<Row<'_>, Refused> {
     let from = from as u64;
     shown(file, |place, shown| match kind {
-        Kind::Labelled => ffi::row_from_labelled(file, from, place, shown),
+        Kind::Labelled(versions) => {
+            ffi::row_from_labelled(file, versions.version_2(), from, place, shown)
+        }
         Kind::Waveform => ffi::row_from_waveform(file, from, place, shown),
     })
 }
@@ -189,10 +218,10 @@ pub fn row_from(kind: Kind, file: &[u8], from: usize) -> Result<Row<'_>, Refused
 /// Refuses: as [`check`].
 ///
 /// ```
-/// use crestulbino::{rows, Kind};
+/// use crestulbino::{rows, Kind, Versions};
 ///
-/// let file = b"CCSD1Z00000100000043NJPL1I00DEMO00000003abcNJPL1I00DEMO00000000";
-/// let mut rows = rows(Kind::Labelled, file)?;
+/// let file = b"CCSD1Z00000100000043NJPL1I00DEMO00000003abcNJPL2I00DEMO\0\0\0\0\0\0\0\0";
+/// let mut rows = rows(Kind::Labelled(Versions::OneAndTwo), file)?;
 /// assert_eq!(rows.len(), 2);
 /// assert_eq!(rows.next().map(|row| (row.place, row.bytes)), Some((40, &b"abc"[..])));
 /// assert_eq!(rows.next().map(|row| (row.place, row.bytes)), Some((63, &b""[..])));
@@ -259,16 +288,29 @@ mod tests {
 
     const DEMO: &[u8] = b"CCSD1Z00000100000043NJPL1I00DEMO00000003abcNJPL1I00DEMO00000000";
 
+    /// The same with its first two labels in version 2.
+    const MIXED: &[u8] = b"CCSD2Z000001\0\0\0\0\0\0\0\x2bNJPL2I00DEMO\0\0\0\0\0\0\0\x03abc\
+                           NJPL1I00DEMO00000000";
+
+    const ONE: Kind = Kind::Labelled(Versions::One);
+    const BOTH: Kind = Kind::Labelled(Versions::OneAndTwo);
+
     #[test]
     fn rows_are_borrowed_from_the_file() {
-        let row = row_from(Kind::Labelled, DEMO, 0).unwrap();
-        assert_eq!(row.bytes.as_ptr(), DEMO[40..].as_ptr());
+        for (kind, file) in [(ONE, DEMO), (BOTH, DEMO), (BOTH, MIXED)] {
+            let row = row_from(kind, file, 0).unwrap();
+            assert_eq!(row.bytes.as_ptr(), file[40..].as_ptr());
+        }
     }
 
     #[test]
     fn going_through_a_file_gives_what_reading_gives() {
         let waveform: Vec<u8> = (0..3 * 2_080).map(|place| (place % 251) as u8).collect();
-        for (kind, file) in [(Kind::Labelled, DEMO), (Kind::Waveform, &waveform)] {
+        let labelled = [(ONE, DEMO), (BOTH, DEMO), (BOTH, MIXED)];
+        for (kind, file) in labelled
+            .into_iter()
+            .chain([(Kind::Waveform, &waveform[..])])
+        {
             let all = rows(kind, file).unwrap();
             assert_eq!(all.size_hint(), (all.len(), Some(all.len())));
             assert_eq!(all.clone().count(), check(kind, file).unwrap());
@@ -281,16 +323,18 @@ mod tests {
 
     #[test]
     fn a_file_is_checked_before_its_first_row() {
-        let late = [DEMO, b"x"].concat();
-        let refused = rows(Kind::Labelled, &late).unwrap_err();
-        assert_eq!(refused.place, 63);
-        assert_eq!(check(Kind::Labelled, &late), Err(refused));
-        assert!(row_from(Kind::Labelled, &late, 0).is_ok());
+        for (kind, file) in [(ONE, DEMO), (BOTH, DEMO), (BOTH, MIXED)] {
+            let late = [file, b"x"].concat();
+            let refused = rows(kind, &late).unwrap_err();
+            assert_eq!(refused.place, 63);
+            assert_eq!(check(kind, &late), Err(refused));
+            assert!(row_from(kind, &late, 0).is_ok());
+        }
     }
 
     #[test]
     fn empty_files_have_no_rows() {
-        for kind in [Kind::Labelled, Kind::Waveform] {
+        for kind in [ONE, BOTH, Kind::Waveform] {
             let mut none = rows(kind, &[]).unwrap();
             assert_eq!((none.len(), none.next(), none.next()), (0, None, None));
         }

@@ -1,6 +1,7 @@
 //! The index of a labelled file, and its kept form.
 
 use crate::ffi;
+use crate::label::Versions;
 use crate::refusal::Refused;
 
 /// One entry of an index stands for so many rows: a file of `n` rows has
@@ -25,18 +26,23 @@ pub struct Built {
 /// Refuses: as [`check`](crate::check) of a labelled file; `Small`.
 ///
 /// ```
-/// use crestulbino::{build_index, Built};
+/// use crestulbino::{build_index, Built, Versions};
 ///
 /// let mut list = [7; 2];
-/// let built = build_index(b"CCSD1Z00000100000023NJPL1I00DEMO00000003abc", &mut list)?;
+/// let file = b"CCSD1Z00000100000023NJPL1I00DEMO00000003abc";
+/// let built = build_index(Versions::One, file, &mut list)?;
 /// assert_eq!(built, Built { entries: 1, rows: 1 });
 /// assert_eq!(list, [20, 7]);
+///
+/// let mixed = b"CCSD2Z000001\0\0\0\0\0\0\0\x17NJPL1I00DEMO00000003abc";
+/// assert_eq!(build_index(Versions::OneAndTwo, mixed, &mut list)?, built);
 /// # Ok::<(), crestulbino::Refused>(())
 /// ```
 #[inline]
-pub fn build_index(file: &[u8], list: &mut [u32]) -> Result<Built, Refused> {
+pub fn build_index(versions: Versions, file: &[u8], list: &mut [u32]) -> Result<Built, Refused> {
     let (mut entries, mut rows) = (0, 0);
-    ffi::build_index(file, list, &mut entries, &mut rows).result()?;
+    let version_2 = versions.version_2();
+    ffi::build_index(file, version_2, list, &mut entries, &mut rows).result()?;
     Ok(Built {
         entries: entries as usize,
         rows: rows as usize,
@@ -48,16 +54,22 @@ pub fn build_index(file: &[u8], list: &mut [u32]) -> Result<Built, Refused> {
 /// Refuses: as [`check`](crate::check) of a labelled file; `BadIndex`.
 ///
 /// ```
-/// use crestulbino::{check_index, Refusal};
+/// use crestulbino::{check_index, Refusal, Versions};
 ///
 /// let file = b"NJPL1I00DEMO00000003abc";
-/// check_index(file, &[0])?;
-/// assert_eq!(check_index(file, &[3]).unwrap_err().refusal, Refusal::BadIndex);
+/// check_index(Versions::One, file, &[0])?;
+/// let refused = check_index(Versions::One, file, &[3]).unwrap_err();
+/// assert_eq!(refused.refusal, Refusal::BadIndex);
+///
+/// let binary = b"NJPL2I00DEMO\0\0\0\0\0\0\0\x03abc";
+/// check_index(Versions::OneAndTwo, binary, &[0])?;
+/// let refused = check_index(Versions::One, binary, &[0]).unwrap_err();
+/// assert_eq!(refused.refusal, Refusal::BadLabel);
 /// # Ok::<(), crestulbino::Refused>(())
 /// ```
 #[inline]
-pub fn check_index(file: &[u8], list: &[u32]) -> Result<(), Refused> {
-    ffi::check_index(file, list).result()
+pub fn check_index(versions: Versions, file: &[u8], list: &[u32]) -> Result<(), Refused> {
+    ffi::check_index(file, versions.version_2(), list).result()
 }
 
 /// Writes an index to the front of `out` as bytes to keep, and answers how many: 6, and 4 for

@@ -7,6 +7,14 @@ use std::fmt::Debug;
 
 const DEMO: &[u8] = b"CCSD1Z00000100000043NJPL1I00DEMO00000003abcNJPL1I00DEMO00000000";
 
+/// The same in version 2, and with both versions.
+const DEMO_2: &[u8] = b"CCSD2Z000001\0\0\0\0\0\0\0\x2bNJPL2I00DEMO\0\0\0\0\0\0\0\x03abc\
+                        NJPL2I00DEMO\0\0\0\0\0\0\0\0";
+const MIXED: &[u8] = b"CCSD1Z00000100000043NJPL1I00DEMO00000003abcNJPL2I00DEMO\0\0\0\0\0\0\0\0";
+
+/// Each file with a choice that it is accepted with: whether version 2 is allowed.
+const ACCEPTED: [(&[u8], bool); 4] = [(DEMO, false), (DEMO, true), (DEMO_2, true), (MIXED, true)];
+
 const ANSWERED: Outcome = refused(0, 0);
 
 const fn refused(refusal: u64, place: u64) -> Outcome {
@@ -165,70 +173,110 @@ fn too_big() -> Vec<u8> {
     vec![0; 1 << 32]
 }
 
-fn too_deep() -> Vec<u8> {
-    let groups = (0..8)
-        .rev()
-        .map(|left| format!("CCSD1Z000001{:08}", left * 20 + 1));
-    groups
-        .chain(["x".to_string()])
-        .collect::<String>()
-        .into_bytes()
+/// Nine labels nested, but for most of the last.
+fn too_deep(label: impl Fn(usize) -> Vec<u8>) -> Vec<u8> {
+    let groups = (0..8).rev().flat_map(|left| label(left * 20 + 1));
+    groups.chain(*b"x").collect()
 }
 
-/// A file for each refusal of the check of labelled files.
-fn refused_files() -> Vec<(Vec<u8>, Outcome)> {
+/// A label of version 2.
+fn label_2(head: &[u8; 12], length: u64) -> Vec<u8> {
+    [&head[..], &length.to_be_bytes()].concat()
+}
+
+/// A file for each refusal of the check of labelled files, with the choice.
+fn refused_files() -> Vec<(Vec<u8>, bool, Outcome)> {
     let mut files = walk_faults();
-    files.push((too_big(), refused(14, 0)));
-    files.push((too_deep(), refused(5, 160)));
+    let deep = too_deep(|length| format!("CCSD1Z000001{length:08}").into_bytes());
+    let deep_2 = too_deep(|length| label_2(b"CCSD2Z000001", length as u64));
+    files.push((deep_2, true, refused(5, 160)));
+    for version_2 in [false, true] {
+        files.push((deep.clone(), version_2, refused(5, 160)));
+    }
+    files.extend(too_big_files());
     files
 }
 
-/// A file for each refusal that a walk from its first byte meets.
-fn walk_faults() -> Vec<(Vec<u8>, Outcome)> {
-    vec![
-        (b"CCSD1Z00000100000001x".to_vec(), refused(1, 20)),
-        (
-            b"CCSD1Z00000100000020NJPL2I00DEMO00000000".to_vec(),
-            refused(2, 20),
-        ),
-        (
-            b"CCSD1Z00000100000020NJPL1I00DEMO0000000x".to_vec(),
-            refused(3, 20),
-        ),
-        (
-            b"CCSD1Z000001      20NJPL1I00DEMO        ".to_vec(),
-            refused(3, 20),
-        ),
-        (
-            b"CCSD1Z00000100000020NJPL1I00DEMO00000001".to_vec(),
-            refused(4, 20),
-        ),
-        (
-            b"CCSD1Z000001      20NJPL1I00DEMO       1".to_vec(),
-            refused(4, 20),
-        ),
-    ]
+fn too_big_files() -> [(Vec<u8>, bool, Outcome); 2] {
+    [false, true].map(|version_2| (too_big(), version_2, refused(14, 0)))
+}
+
+/// A file for each refusal that a walk from its first byte meets, with the choice.
+fn walk_faults() -> Vec<(Vec<u8>, bool, Outcome)> {
+    let mut files = Vec::new();
+    for (file, outcome) in [
+        (&b"CCSD1Z00000100000001x"[..], refused(1, 20)),
+        (b"CCSD1Z00000100000020NJPL3I00DEMO00000000", refused(2, 20)),
+        (b"CCSD1Z00000100000020NJPL1I00DEMO0000000x", refused(3, 20)),
+        (b"CCSD1Z000001      20NJPL1I00DEMO        ", refused(3, 20)),
+        (b"CCSD1Z00000100000020NJPL1I00DEMO00000001", refused(4, 20)),
+        (b"CCSD1Z000001      20NJPL1I00DEMO       1", refused(4, 20)),
+    ] {
+        // The same inside a group of version 2.
+        let inside = &file[20..];
+        let group = label_2(b"CCSD2Z000001", inside.len() as u64);
+        files.push(([&group, inside].concat(), true, outcome));
+        files.push((group, false, refused(2, 0)));
+        for version_2 in [false, true] {
+            files.push((file.to_vec(), version_2, outcome));
+        }
+    }
+    for length in [1, 1 << 31, 1 << 32, 1 << 63, u64::MAX - 39, u64::MAX] {
+        let leaf = label_2(b"NJPL2I00DEMO", length);
+        let file = [&b"CCSD1Z00000100000020"[..], &leaf].concat();
+        files.push((file.clone(), false, refused(2, 20)));
+        files.push((file, true, refused(4, 20)));
+    }
+    files
 }
 
 #[test]
 fn read_label() {
-    for (bytes, expected) in [
-        (&b"NJPL1I00DEMO00000003abc"[..], Ok(0)),
-        (b"NJPL1I00DEMO   00003", Ok(3)),
-        (b"NJPL1I00DEMO       3abc", Ok(7)),
-        (b"NJPL1I00DEMO0000000", Err(refused(1, 0))),
-        (b"NJPL1i00DEMO00000003", Err(refused(2, 0))),
-        (b"NJPL1I00DEMO0000000x", Err(refused(3, 0))),
-        (b"NJPL1I00DEMO        ", Err(refused(3, 0))),
-        (b"NJPL1I00DEMO  00003 ", Err(refused(3, 0))),
+    const ONE: [bool; 1] = [false];
+    const TWO: [bool; 1] = [true];
+    const EITHER: [bool; 2] = [false, true];
+    for (bytes, choices, expected) in [
+        (&b"NJPL1I00DEMO00000003abc"[..], &EITHER[..], Ok((1, 3, 0))),
+        (b"NJPL1I00DEMO   00003", &EITHER, Ok((1, 3, 3))),
+        (b"NJPL1I00DEMO       3abc", &EITHER, Ok((1, 3, 7))),
+        (b"NJPL1I00DEMO0000000", &EITHER, Err(refused(1, 0))),
+        (b"NJPL1i00DEMO00000003", &EITHER, Err(refused(2, 0))),
+        (b"NJPL3I00DEMO00000003", &EITHER, Err(refused(2, 0))),
+        (b"NJPL1I00DEMO0000000x", &EITHER, Err(refused(3, 0))),
+        (b"NJPL1I00DEMO        ", &EITHER, Err(refused(3, 0))),
+        (b"NJPL1I00DEMO  00003 ", &EITHER, Err(refused(3, 0))),
+        (b"NJPL2I00DEMO\0\0\0\0\0\0\0\x03", &TWO, Ok((2, 3, 0))),
+        (b"NJPL2I00DEMO\0\0\0\0\0\0\0\x03", &ONE, Err(refused(2, 0))),
+        (
+            b"NJPL2I00DEMO\xff\xff\xff\xff\xff\xff\xff\xff",
+            &TWO,
+            Ok((2, u64::MAX, 0)),
+        ),
+        (
+            b"NJPL2I00DEMO        ",
+            &TWO,
+            Ok((2, 0x2020_2020_2020_2020, 0)),
+        ),
+        (b"NJPL2I00DEMO        ", &ONE, Err(refused(2, 0))),
+        (
+            b"NJPL2i00DEMO\0\0\0\0\0\0\0\x03",
+            &EITHER,
+            Err(refused(2, 0)),
+        ),
+        (b"NJPL2I00DEMO\0\0\0\0\0\0\0", &EITHER, Err(refused(1, 0))),
     ] {
-        for salt in SALTS {
-            let (mut agency, mut class) = (Lent::new(4, salt), Lent::new(1, salt));
-            let (mut description, mut length) = (Lent::new(4, salt), Lent::new(1, salt));
-            let mut spaces = Lent::new(1, salt);
+        for (salt, &version_2) in SALTS
+            .iter()
+            .flat_map(|s| choices.iter().map(move |c| (*s, c)))
+        {
+            let (mut agency, mut version) = (Lent::new(4, salt), Lent::new(1, salt));
+            let (mut class, mut description) = (Lent::new(1, salt), Lent::new(4, salt));
+            let (mut length, mut spaces) = (Lent::new(1, salt), Lent::new(1, salt));
             let outcome = ffi::read_label(
                 bytes,
+                version_2,
                 agency.four(),
+                version.number(),
                 class.number(),
                 description.four(),
                 length.number(),
@@ -237,40 +285,90 @@ fn read_label() {
             assert_eq!(outcome, expected.err().unwrap_or(ANSWERED));
             let answered = usize::from(expected.is_ok());
             agency.assert_front(&b"NJPL"[..4 * answered]);
+            version.assert_front(expected.ok().map(|parts| parts.0).as_slice());
             class.assert_front(&b"I"[..answered]);
             description.assert_front(&b"DEMO"[..4 * answered]);
-            length.assert_front(&[3][..answered]);
-            spaces.assert_front(expected.ok().as_slice());
+            length.assert_front(expected.ok().map(|parts| parts.1).as_slice());
+            spaces.assert_front(expected.ok().map(|parts| parts.2).as_slice());
         }
     }
 }
 
 #[test]
 fn write_label() {
+    let (one, two) = (&b"NJPL1I00DEMO"[..], &b"NJPL2I00DEMO"[..]);
     let label = || Ok(b"NJPL1I00DEMO00000003".to_vec());
-    for (head, length, size, expected) in [
-        (&b"NJPL1I00DEMO"[..], 3, 20, label()),
-        (b"NJPL1I00DEMO", 3, 23, label()),
-        (b"NJPL1I00DEM", 3, 23, Err(refused(2, 0))),
-        (b"NJPL1I00DEMo", 3, 23, Err(refused(2, 0))),
-        (b"NJPL1I00DEMO", 100_000_000, 23, Err(refused(15, 0))),
-        (b"NJPL1I00DEMO", u64::MAX, 23, Err(refused(15, 0))),
-        (b"NJPL1I00DEMO", 3, 19, Err(refused(8, 0))),
-        (b"NJPL1I00DEMO", 3, 0, Err(refused(8, 0))),
+    let of_2 = |length| Ok(label_2(b"NJPL2I00DEMO", length));
+    for (version, head, length, size, expected) in [
+        (1, one, 3, 20, label()),
+        (1, one, 3, 23, label()),
+        (1, b"NJPL1I00DEM", 3, 23, Err(refused(2, 0))),
+        (1, b"NJPL1I00DEMo", 3, 23, Err(refused(2, 0))),
+        (1, two, 3, 23, Err(refused(2, 0))),
+        (1, two, 100_000_000, 0, Err(refused(2, 0))),
+        (1, one, 100_000_000, 23, Err(refused(15, 0))),
+        (1, one, u64::MAX, 23, Err(refused(15, 0))),
+        (1, one, u64::MAX, 0, Err(refused(15, 0))),
+        (1, one, 3, 19, Err(refused(8, 0))),
+        (1, one, 3, 0, Err(refused(8, 0))),
+        (2, two, 3, 20, of_2(3)),
+        (2, two, 100_000_000, 23, of_2(100_000_000)),
+        (2, two, 1 << 32, 21, of_2(1 << 32)),
+        (2, two, 1 << 63, 20, of_2(1 << 63)),
+        (2, two, u64::MAX, 20, of_2(u64::MAX)),
+        (2, b"NJPL2I00DEM", 3, 23, Err(refused(2, 0))),
+        (2, b"NJPL2I00DEMo", u64::MAX, 23, Err(refused(2, 0))),
+        (2, one, 3, 23, Err(refused(2, 0))),
+        (2, two, u64::MAX, 19, Err(refused(8, 0))),
+        (2, two, 3, 0, Err(refused(8, 0))),
     ] {
         fills("write_label", size, expected, |out, written| {
-            ffi::write_label(head, length, out, written)
+            ffi::write_label(version, head, length, out, written)
         });
+    }
+    // Other numbers are no versions, whatever byte 4 is; not even as characters.
+    for version in [0, 3, b'1', b'2', 255] {
+        for byte in [b'1', b'2', b'0', b'3', 0, 1, 2, 3, 255, version] {
+            let mut head = *b"NJPL1I00DEMO";
+            head[4] = byte;
+            for (length, size) in [(3, 23), (u64::MAX, 23), (3, 0)] {
+                fills(
+                    "write_label",
+                    size,
+                    Err(refused(2, 0)),
+                    |out: &mut [u8], written| {
+                        ffi::write_label(version, &head, length, out, written)
+                    },
+                );
+            }
+        }
+    }
+    // Nor does byte 4 agree as a number.
+    for (version, byte) in [(1, 1), (2, 2)] {
+        let mut head = *b"NJPL1I00DEMO";
+        head[4] = byte;
+        fills(
+            "write_label",
+            23,
+            Err(refused(2, 0)),
+            |out: &mut [u8], written| ffi::write_label(version, &head, 3, out, written),
+        );
     }
 }
 
 #[test]
 fn check() {
-    answers_number("labelled", Ok(2), |rows| ffi::check_labelled(DEMO, rows));
-    answers_number("labelled", Ok(0), |rows| ffi::check_labelled(&[], rows));
-    for (file, outcome) in refused_files() {
+    for (file, version_2) in ACCEPTED {
+        answers_number("labelled", Ok(2), |rows| {
+            ffi::check_labelled(file, version_2, rows)
+        });
+        answers_number("labelled", Ok(0), |rows| {
+            ffi::check_labelled(&[], version_2, rows)
+        });
+    }
+    for (file, version_2, outcome) in refused_files() {
         answers_number("labelled", Err(outcome), |rows| {
-            ffi::check_labelled(&file, rows)
+            ffi::check_labelled(&file, version_2, rows)
         });
     }
     for (file, expected) in [
@@ -294,13 +392,15 @@ fn read_row_labelled() {
         (0, 1, 3, Err(refused(7, 0))),
         (1, u64::MAX, 1, Err(refused(7, 0))),
     ] {
-        answers_two("read_row_labelled", expected, |place, shown| {
-            ffi::read_row_labelled(DEMO, row, first, count, place, shown)
-        });
+        for (file, version_2) in ACCEPTED {
+            answers_two("read_row_labelled", expected, |place, shown| {
+                ffi::read_row_labelled(file, version_2, row, first, count, place, shown)
+            });
+        }
     }
-    for (file, outcome) in refused_files() {
+    for (file, version_2, outcome) in refused_files() {
         answers_two("read_row_labelled", Err(outcome), |place, shown| {
-            ffi::read_row_labelled(&file, 0, 0, 0, place, shown)
+            ffi::read_row_labelled(&file, version_2, 0, 0, 0, place, shown)
         });
     }
 }
@@ -349,16 +449,21 @@ fn jump_labelled() {
         (&[64], 0, 0, 0, Err(refused(11, 0))),
         (&[20], 0, 1, 3, Err(refused(7, 0))),
     ] {
-        answers_two("jump_labelled", expected, |place, shown| {
-            ffi::jump_labelled(DEMO, list, row, first, count, place, shown)
+        for (file, version_2) in ACCEPTED {
+            answers_two("jump_labelled", expected, |place, shown| {
+                ffi::jump_labelled(file, version_2, list, row, first, count, place, shown)
+            });
+        }
+    }
+    for (file, version_2, outcome) in walk_faults().into_iter().chain(too_big_files()) {
+        answers_two("jump_labelled", Err(outcome), |place, shown| {
+            ffi::jump_labelled(&file, version_2, &[0], 0, 0, 0, place, shown)
         });
     }
-    for (file, outcome) in walk_faults()
-        .into_iter()
-        .chain([(too_big(), refused(14, 0))])
-    {
-        answers_two("jump_labelled", Err(outcome), |place, shown| {
-            ffi::jump_labelled(&file, &[0], 0, 0, 0, place, shown)
+    // Version 1 only, the walk does not meet the last label.
+    for (row, expected) in [(0, Ok((40, 0))), (1, Err(refused(2, 43)))] {
+        answers_two("jump_labelled", expected, |place, shown| {
+            ffi::jump_labelled(MIXED, false, &[20], row, 0, 0, place, shown)
         });
     }
 }
@@ -372,48 +477,64 @@ fn row_from_labelled() {
         (64, Err(refused(6, 0))),
         (u64::MAX, Err(refused(6, 0))),
     ] {
-        answers_two("row_from_labelled", expected, |place, shown| {
-            ffi::row_from_labelled(DEMO, from, place, shown)
+        for (file, version_2) in ACCEPTED {
+            answers_two("row_from_labelled", expected, |place, shown| {
+                ffi::row_from_labelled(file, version_2, from, place, shown)
+            });
+        }
+    }
+    for (file, version_2, outcome) in walk_faults().into_iter().chain(too_big_files()) {
+        answers_two("row_from_labelled", Err(outcome), |place, shown| {
+            ffi::row_from_labelled(&file, version_2, 0, place, shown)
         });
     }
-    for (file, outcome) in walk_faults()
-        .into_iter()
-        .chain([(too_big(), refused(14, 0))])
-    {
-        answers_two("row_from_labelled", Err(outcome), |place, shown| {
-            ffi::row_from_labelled(&file, 0, place, shown)
+    for (from, expected) in [(0, Ok((40, 3))), (43, Err(refused(2, 43)))] {
+        answers_two("row_from_labelled", expected, |place, shown| {
+            ffi::row_from_labelled(MIXED, false, from, place, shown)
         });
     }
 }
 
 #[test]
 fn build_index() {
-    let file = b"NJPL1I00DEMO00000001x".repeat(33);
+    let one = b"NJPL1I00DEMO00000001x".repeat(33);
+    let two = b"NJPL2I00DEMO\0\0\0\0\0\0\0\x01x".repeat(33);
+    let mixed = [&one[..20 * 21], &two[20 * 21..]].concat();
     for (size, expected) in [
         (3, Ok((vec![0, 336, 672], (3, 33)))),
         (5, Ok((vec![0, 336, 672], (3, 33)))),
         (2, Err(refused(8, 0))),
         (0, Err(refused(8, 0))),
     ] {
-        answers_with("build_index", size, expected, |list, entries, rows| {
-            ffi::build_index(&file, list, entries, rows)
-        });
+        for (file, version_2) in [(&one, false), (&one, true), (&two, true), (&mixed, true)] {
+            let expected = expected.clone();
+            answers_with("build_index", size, expected, |list, entries, rows| {
+                ffi::build_index(file, version_2, list, entries, rows)
+            });
+        }
     }
-    for (file, outcome) in refused_files() {
+    let late = (mixed, false, refused(2, 420));
+    for (file, version_2, outcome) in refused_files().into_iter().chain([late]) {
         answers_with("build_index", 2, Err(outcome), |list, entries, rows| {
-            ffi::build_index(&file, list, entries, rows)
+            ffi::build_index(&file, version_2, list, entries, rows)
         });
     }
 }
 
 #[test]
 fn check_index() {
-    assert_eq!(ffi::check_index(DEMO, &[20]), ANSWERED);
-    for list in [&[][..], &[21], &[20, 20]] {
-        assert_eq!(ffi::check_index(DEMO, list), refused(11, 0));
+    for (file, version_2) in ACCEPTED {
+        assert_eq!(ffi::check_index(file, version_2, &[20]), ANSWERED);
+        for list in [&[][..], &[21], &[20, 20]] {
+            assert_eq!(ffi::check_index(file, version_2, list), refused(11, 0));
+        }
     }
-    for (file, outcome) in refused_files() {
-        assert_eq!(ffi::check_index(&file, &[20]), outcome);
+    for (file, version_2, outcome) in refused_files() {
+        assert_eq!(ffi::check_index(&file, version_2, &[20]), outcome);
+    }
+    for list in [&[][..], &[20]] {
+        assert_eq!(ffi::check_index(DEMO_2, false, list), refused(2, 0));
+        assert_eq!(ffi::check_index(MIXED, false, list), refused(2, 43));
     }
 }
 

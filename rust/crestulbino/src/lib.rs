@@ -8,19 +8,23 @@
 //! it, and a call that writes fills the front of what it is lent and answers how much.
 //!
 //! ```
-//! use crestulbino::{build_index, jump_labelled, rows, Kind, Window};
+//! use crestulbino::{build_index, jump_labelled, rows, Kind, Versions, Window};
 //!
 //! let file = b"CCSD1Z00000100000043NJPL1I00DEMO00000003abcNJPL1I00DEMO00000000";
-//! for (number, row) in rows(Kind::Labelled, file)?.enumerate() {
+//! let kind = Kind::Labelled(Versions::One);
+//! for (number, row) in rows(kind, file)?.enumerate() {
 //!     println!("row {number}: {} bytes at {}", row.bytes.len(), row.place);
 //! }
 //!
 //! let mut list = [0; 1];
-//! let built = build_index(file, &mut list)?;
-//! let row = jump_labelled(file, &list[..built.entries], 0, Window::new(1, 2))?;
+//! let built = build_index(Versions::One, file, &mut list)?;
+//! let row = jump_labelled(Versions::One, file, &list[..built.entries], 0, Window::new(1, 2))?;
 //! assert_eq!((row.place, row.bytes), (41, &b"bc"[..]));
 //! # Ok::<(), crestulbino::Refused>(())
 //! ```
+//!
+//! A label is of one of two [`Version`]s, and a file may mix them. Every call that reads labels is
+//! told which [`Versions`] are allowed; all that is asked of one file is to be told the same.
 //!
 //! Places, row numbers and counts are `usize`, which has 64 bits wherever this crate can be built.
 //! A place is the number of bytes before it in what was lent.
@@ -55,6 +59,6 @@ pub use file::{
 pub use index::{
     build_index, check_index, keep_index, load_kept, Built, KEPT_FRONT_BYTES, ROWS_PER_ENTRY,
 };
-pub use label::{read_label, write_label, Label, LABEL_BYTES};
+pub use label::{read_label, write_label, Label, Version, Versions, LABEL_BYTES};
 pub use numbers::{opening, sample, vax_d, vax_f, verdict, Opening, Verdict};
 pub use refusal::{Refusal, Refused};

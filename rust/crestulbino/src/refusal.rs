@@ -11,9 +11,9 @@ use std::fmt;
 pub enum Refusal {
     /// Too few bytes remain for a label or a number.
     Short = 1,
-    /// Bytes 0 to 11 are not those of a label.
+    /// Bytes 0 to 11 are not those of a label of an allowed version.
     BadLabel = 2,
-    /// The label's length field is not spaces followed by digits.
+    /// The length field of a version 1 label is not spaces followed by digits.
     BadLength = 3,
     /// The value ends beyond its enclosing value or the file.
     Overrun = 4,
@@ -37,7 +37,7 @@ pub enum Refusal {
     BadKept = 13,
     /// The file has more than 4,294,967,295 bytes, or the index too many entries to be kept.
     TooBig = 14,
-    /// The label cannot hold a length of more than 99,999,999 bytes.
+    /// A version 1 label cannot hold a length of more than 99,999,999 bytes.
     TooLong = 15,
 }
 
@@ -105,10 +105,13 @@ impl Refusal {
     const fn words(self) -> (&'static str, &'static str) {
         match self {
             Refusal::Short => ("SHORT", "too few bytes remain for a label or a number"),
-            Refusal::BadLabel => ("BADLABEL", "bytes 0 to 11 are not those of a label"),
+            Refusal::BadLabel => (
+                "BADLABEL",
+                "bytes 0 to 11 are not those of a label of an allowed version",
+            ),
             Refusal::BadLength => (
                 "BADLENGTH",
-                "the label's length field is not spaces followed by digits",
+                "the length field of a version 1 label is not spaces followed by digits",
             ),
             Refusal::Overrun => (
                 "OVERRUN",
@@ -132,7 +135,7 @@ impl Refusal {
             ),
             Refusal::TooLong => (
                 "TOOLONG",
-                "the label cannot hold a length of more than 99,999,999 bytes",
+                "a version 1 label cannot hold a length of more than 99,999,999 bytes",
             ),
         }
     }
@@ -148,9 +151,9 @@ impl fmt::Display for Refusal {
 /// A refused call: why, and where the fault stands.
 ///
 /// ```
-/// use crestulbino::{check, Kind, Refusal};
+/// use crestulbino::{check, Kind, Refusal, Versions};
 ///
-/// let refused = check(Kind::Labelled, &[0; 19]).unwrap_err();
+/// let refused = check(Kind::Labelled(Versions::One), &[0; 19]).unwrap_err();
 /// assert_eq!((refused.refusal, refused.place), (Refusal::Short, 0));
 /// assert_eq!(
 ///     refused.to_string(),

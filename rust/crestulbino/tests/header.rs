@@ -69,6 +69,7 @@ fn rust_type(c: &str) -> String {
         "uint64_t" => "u64",
         "int64_t" => "i64",
         "size_t" => "usize",
+        "bool" => "bool",
         "double" => "f64",
         "crest_result" => "Outcome",
         other => panic!("no type for {other}"),

@@ -4,7 +4,9 @@
 use std::path::Path;
 
 fn read(name: &str) -> String {
-    let path = Path::new(env!("CARGO_MANIFEST_DIR")).join("../..").join(name);
+    let path = Path::new(env!("CARGO_MANIFEST_DIR"))
+        .join("../..")
+        .join(name);
     std::fs::read_to_string(&path).unwrap_or_else(|error| panic!("{}: {error}", path.display()))
 }
 
@@ -13,14 +15,19 @@ fn block<'a>(page: &'a str, language: &str) -> Vec<&'a str> {
     let opening = format!("```{language}");
     let mut blocks = page.lines().skip_while(|line| *line != opening);
     assert!(blocks.next().is_some(), "no block in {language}");
-    let lines: Vec<&str> = blocks.take_while(|line| *line != "```").map(str::trim).collect();
+    let lines: Vec<&str> = blocks
+        .take_while(|line| *line != "```")
+        .map(str::trim)
+        .collect();
     assert!(!lines.is_empty(), "an empty block in {language}");
     lines
 }
 
 /// Whether the lines stand in the source in this order, others between them.
 fn stand_in(lines: &[&str], source: &str) -> Result<(), String> {
-    let mut rest = source.lines().map(|line| line.trim_start_matches("//!").trim());
+    let mut rest = source
+        .lines()
+        .map(|line| line.trim_start_matches("//!").trim());
     for line in lines {
         if !rest.any(|other| other == *line) {
             return Err(line.to_string());
