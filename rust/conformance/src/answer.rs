@@ -17,27 +17,39 @@ pub fn answer_line(library: &Library, line: &[u8]) -> String {
 /// refused or not.
 pub fn answer(library: &Library, case: &Case) -> String {
     match case {
-        Case::ReadLabel { bytes } => line((library.read_label)(bytes).map(|label| {
-            format!(
-                "{} {} {} {} {}",
-                Bytes(&label.agency),
-                Bytes(&[label.class]),
-                Bytes(&label.description),
-                label.length,
-                label.spaces
-            )
-        })),
+        Case::ReadLabel { bytes, versions } => {
+            line((library.read_label)(*versions, bytes).map(|label| {
+                format!(
+                    "{} {} {} {} {} {}",
+                    Bytes(&label.agency),
+                    label.version.number(),
+                    Bytes(&[label.class]),
+                    Bytes(&label.description),
+                    label.length,
+                    label.spaces
+                )
+            }))
+        }
         Case::WriteLabel {
+            version,
             head,
             length,
             buffer,
         } => writes(buffer, Bytes, |buffer| {
-            (library.write_label)(head, *length, buffer)
+            (library.write_label)(*version, head, *length, buffer)
         }),
-        Case::CheckLabelled { file } => line((library.check)(Kind::Labelled, file)),
+        Case::CheckLabelled { file, versions } => {
+            line((library.check)(Kind::Labelled(*versions), file))
+        }
         Case::CheckWaveform { file } => line((library.check)(Kind::Waveform, file)),
-        Case::ReadRowLabelled { file, row, window } => {
-            shown((library.read_row)(Kind::Labelled, file, *row, *window))
+        Case::ReadRowLabelled {
+            file,
+            row,
+            window,
+            versions,
+        } => {
+            let kind = Kind::Labelled(*versions);
+            shown((library.read_row)(kind, file, *row, *window))
         }
         Case::ReadRowWaveform { file, row, window } => {
             shown((library.read_row)(Kind::Waveform, file, *row, *window))
@@ -47,16 +59,27 @@ pub fn answer(library: &Library, case: &Case) -> String {
             list,
             row,
             window,
-        } => shown((library.jump_labelled)(file, list, *row, *window)),
+            versions,
+        } => shown((library.jump_labelled)(
+            *versions, file, list, *row, *window,
+        )),
         Case::JumpWaveform { file, row, window } => {
             shown((library.jump_waveform)(file, *row, *window))
         }
         Case::RowFrom { kind, file, from } => shown((library.row_from)(*kind, file, *from)),
-        Case::BuildIndex { file, list } => writes(list, List, |list| {
-            let built = (library.build_index)(file, list)?;
+        Case::BuildIndex {
+            file,
+            list,
+            versions,
+        } => writes(list, List, |list| {
+            let built = (library.build_index)(*versions, file, list)?;
             Ok(format!("{} {}", built.entries, built.rows))
         }),
-        Case::CheckIndex { file, list } => match (library.check_index)(file, list) {
+        Case::CheckIndex {
+            file,
+            list,
+            versions,
+        } => match (library.check_index)(*versions, file, list) {
             Ok(()) => "ok".to_string(),
             Err(refused) => refusal(refused),
         },

@@ -4,7 +4,7 @@ use crate::shrink::{self, Serves};
 use crate::words::{
     read_bytes, read_list, read_number, read_signed, write_bytes, write_list, Words,
 };
-use crestulbino::{Kind, Window};
+use crestulbino::{Kind, Version, Versions, Window};
 use std::fmt;
 
 pub(crate) trait Argument: Sized {
@@ -114,14 +114,53 @@ impl Argument for Window {
     }
 }
 
-const LABELLED: &str = "labelled1";
+/// A label's version is its number.
+impl Argument for Version {
+    fn read(words: &mut Words<'_>) -> Option<Self> {
+        Version::from_number(u8::read(words)?)
+    }
+
+    fn write(&self, f: &mut fmt::Formatter<'_>) -> fmt::Result {
+        self.number().write(f)
+    }
+
+    fn shrink(&mut self, serves: &mut Serves<'_, Self>) -> Option<()> {
+        instead(self, Version::One, serves)
+    }
+}
+
+/// The versions that are allowed are written as the highest of them.
+impl Argument for Versions {
+    fn read(words: &mut Words<'_>) -> Option<Self> {
+        Some(match Version::read(words)? {
+            Version::One => Versions::One,
+            Version::Two => Versions::OneAndTwo,
+        })
+    }
+
+    fn write(&self, f: &mut fmt::Formatter<'_>) -> fmt::Result {
+        match self {
+            Versions::One => Version::One,
+            Versions::OneAndTwo => Version::Two,
+        }
+        .write(f)
+    }
+
+    fn shrink(&mut self, serves: &mut Serves<'_, Self>) -> Option<()> {
+        instead(self, Versions::One, serves)
+    }
+}
+
+const LABELLED_1: &str = "labelled1";
+const LABELLED_2: &str = "labelled2";
 const WAVEFORM: &str = "waveform";
 
-/// A kind is one word. None is smaller than another.
+/// A kind is one word. A labelled file is made one with fewer versions.
 impl Argument for Kind {
     fn read(words: &mut Words<'_>) -> Option<Self> {
         match std::str::from_utf8(words.next()?).ok()? {
-            LABELLED => Some(Kind::Labelled),
+            LABELLED_1 => Some(Kind::Labelled(Versions::One)),
+            LABELLED_2 => Some(Kind::Labelled(Versions::OneAndTwo)),
             WAVEFORM => Some(Kind::Waveform),
             _ => None,
         }
@@ -129,12 +168,28 @@ impl Argument for Kind {
 
     fn write(&self, f: &mut fmt::Formatter<'_>) -> fmt::Result {
         f.write_str(match self {
-            Kind::Labelled => LABELLED,
+            Kind::Labelled(Versions::One) => LABELLED_1,
+            Kind::Labelled(Versions::OneAndTwo) => LABELLED_2,
             Kind::Waveform => WAVEFORM,
         })
     }
 
-    fn shrink(&mut self, _: &mut Serves<'_, Self>) -> Option<()> {
-        Some(())
+    fn shrink(&mut self, serves: &mut Serves<'_, Self>) -> Option<()> {
+        match self {
+            Kind::Labelled(_) => instead(self, Kind::Labelled(Versions::One), serves),
+            Kind::Waveform => Some(()),
+        }
     }
+}
+
+/// Takes the smallest one instead, if it is another and serves.
+fn instead<T: Copy + PartialEq>(
+    one: &mut T,
+    smallest: T,
+    serves: &mut Serves<'_, T>,
+) -> Option<()> {
+    if *one != smallest && serves(&smallest)? {
+        *one = smallest;
+    }
+    Some(())
 }

@@ -2,7 +2,7 @@
 
 use crate::argument::Argument;
 use crate::words::Words;
-use crestulbino::{Kind, Window};
+use crestulbino::{Kind, Version, Versions, Window};
 use std::fmt;
 
 /// Makes the cases of the calls' names and arguments, with all that is done alike for each.
@@ -68,17 +68,17 @@ macro_rules! cases {
 }
 
 cases! {
-    "read_label" ReadLabel { bytes: Vec<u8> }
-    "write_label" WriteLabel { head: Vec<u8>, length: usize, buffer: Vec<u8> }
-    "check_labelled" CheckLabelled { file: Vec<u8> }
+    "read_label" ReadLabel { bytes: Vec<u8>, versions: Versions }
+    "write_label" WriteLabel { version: Version, head: Vec<u8>, length: usize, buffer: Vec<u8> }
+    "check_labelled" CheckLabelled { file: Vec<u8>, versions: Versions }
     "check_waveform" CheckWaveform { file: Vec<u8> }
-    "read_row_labelled" ReadRowLabelled { file: Vec<u8>, row: usize, window: Window }
+    "read_row_labelled" ReadRowLabelled { file: Vec<u8>, row: usize, window: Window, versions: Versions }
     "read_row_waveform" ReadRowWaveform { file: Vec<u8>, row: usize, window: Window }
-    "jump_labelled" JumpLabelled { file: Vec<u8>, list: Vec<u32>, row: usize, window: Window }
+    "jump_labelled" JumpLabelled { file: Vec<u8>, list: Vec<u32>, row: usize, window: Window, versions: Versions }
     "jump_waveform" JumpWaveform { file: Vec<u8>, row: usize, window: Window }
     "row_from" RowFrom { kind: Kind, file: Vec<u8>, from: usize }
-    "build_index" BuildIndex { file: Vec<u8>, list: Vec<u32> }
-    "check_index" CheckIndex { file: Vec<u8>, list: Vec<u32> }
+    "build_index" BuildIndex { file: Vec<u8>, list: Vec<u32>, versions: Versions }
+    "check_index" CheckIndex { file: Vec<u8>, list: Vec<u32>, versions: Versions }
     "keep_index" KeepIndex { list: Vec<u32>, buffer: Vec<u8> }
     "load_kept" LoadKept { bytes: Vec<u8>, list: Vec<u32> }
     "sample" Sample { byte: u8 }
@@ -99,10 +99,15 @@ mod tests {
     #[test]
     fn a_case_is_shown_as_its_line() {
         for line in [
-            "read_label -",
-            "write_label 4e4a 18446744073709551615 00ff",
-            "jump_labelled 00 7,4294967295 1 2 3",
+            "read_label - 1",
+            "write_label 2 4e4a 18446744073709551615 00ff",
+            "check_labelled - 2",
+            "read_row_labelled 00 1 2 3 1",
+            "jump_labelled 00 7,4294967295 1 2 3 2",
+            "build_index 00 7 1",
+            "check_index 00 - 2",
             "row_from labelled1 00 5",
+            "row_from labelled2 00 5",
             "row_from waveform - 0",
             "sample 255",
             "verdict 141 -9223372036854775808",
@@ -112,10 +117,30 @@ mod tests {
     }
 
     #[test]
-    fn kinds_are_two_words() {
+    fn versions_are_1_and_2() {
+        for versions in ["0", "3", "01", "02", "+1", "-1", "11", "12", "-", "v1", ""] {
+            for line in [
+                format!("read_label - {versions}"),
+                format!("write_label {versions} - 0 -"),
+                format!("check_labelled - {versions}"),
+                format!("read_row_labelled - 0 0 0 {versions}"),
+                format!("jump_labelled - - 0 0 0 {versions}"),
+                format!("build_index - - {versions}"),
+                format!("check_index - - {versions}"),
+            ] {
+                assert_eq!(Case::parse(line.as_bytes()), None, "{line}");
+            }
+        }
+    }
+
+    #[test]
+    fn kinds_are_three_words() {
         for kind in [
             "labelled",
-            "labelled2",
+            "labelled0",
+            "labelled3",
+            "labelled02",
+            "labelled12",
             "Labelled1",
             "waveforms",
             "bursts:0",
@@ -131,11 +156,13 @@ mod tests {
     fn every_argument_is_made_smaller() {
         for (line, smallest) in [
             (
-                "jump_labelled 010203 4,5,6 7 8 9",
-                "jump_labelled - - 0 0 0",
+                "jump_labelled 010203 4,5,6 7 8 9 2",
+                "jump_labelled - - 0 0 0 1",
             ),
-            ("write_label 0102 12 0304", "write_label - 0 -"),
+            ("write_label 2 0102 12 0304", "write_label 1 - 0 -"),
+            ("check_labelled 01 1", "check_labelled - 1"),
             ("row_from waveform 0102 77", "row_from waveform - 0"),
+            ("row_from labelled2 0102 77", "row_from labelled1 - 0"),
             ("verdict 141 -9223372036854775808", "verdict 0 0"),
             ("sample 200", "sample 0"),
         ] {
@@ -158,5 +185,9 @@ mod tests {
         };
         shrunk.shrink(&mut |trial| Some(still(trial))).unwrap();
         assert_eq!(shrunk, case("keep_index 256 -"));
+        let mut shrunk = case("row_from labelled2 0102 5");
+        let still = |trial: &Case| trial.to_string().contains("labelled2");
+        shrunk.shrink(&mut |trial| Some(still(trial))).unwrap();
+        assert_eq!(shrunk, case("row_from labelled2 - 0"));
     }
 }

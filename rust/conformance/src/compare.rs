@@ -103,7 +103,7 @@ fn cut(line: &str) -> String {
 mod tests {
     use super::*;
     use crate::library::INDEPENDENT;
-    use crestulbino::{Kind, Refusal, Refused, Row};
+    use crestulbino::{Kind, Refusal, Refused, Row, Versions};
 
     fn compared_with(wrong: Library) -> Option<Difference> {
         let sides = Sides {
@@ -140,10 +140,9 @@ mod tests {
     fn a_file_is_made_as_small_as_the_fault_allows() {
         fn wrong(kind: Kind, file: &[u8]) -> Result<usize, Refused> {
             let rows = (INDEPENDENT.check)(kind, file)?;
-            Ok(if kind == Kind::Labelled {
-                rows.min(3)
-            } else {
-                rows
+            Ok(match kind {
+                Kind::Labelled(_) => rows.min(3),
+                Kind::Waveform => rows,
             })
         }
         let found = compared_with(Library {
@@ -151,11 +150,36 @@ mod tests {
             ..INDEPENDENT
         })
         .unwrap();
-        let Case::CheckLabelled { file } = &found.case else {
+        let Case::CheckLabelled { file, versions } = found.case.clone() else {
             panic!("{found}");
         };
-        assert_eq!((INDEPENDENT.check)(Kind::Labelled, file), Ok(4));
+        assert_eq!((INDEPENDENT.check)(Kind::Labelled(versions), &file), Ok(4));
         assert!(file.len() < 5 * 20, "{found}");
+    }
+
+    /// A reader that is wrong about labels of version 2 only.
+    #[test]
+    fn a_fault_of_version_2_is_found() {
+        fn wrong(kind: Kind, file: &[u8]) -> Result<usize, Refused> {
+            let is_wrong = |refused: &Refused| {
+                let version = file.get(refused.place + 4);
+                refused.refusal == Refusal::Overrun && version == Some(&b'2')
+            };
+            (INDEPENDENT.check)(kind, file).or_else(|refused| match is_wrong(&refused) {
+                true => Ok(0),
+                false => Err(refused),
+            })
+        }
+        let found = compared_with(Library {
+            check: wrong,
+            ..INDEPENDENT
+        })
+        .unwrap();
+        let Case::CheckLabelled { file, versions } = &found.case else {
+            panic!("{found}");
+        };
+        assert_eq!((file.len(), file[4]), (20, b'2'), "{found}");
+        assert_eq!(*versions, Versions::OneAndTwo, "{found}");
     }
 
     #[test]

@@ -4,7 +4,7 @@ mod second;
 
 pub use second::INDEPENDENT;
 
-use crestulbino::{Built, Kind, Label, Opening, Refused, Row, Verdict, Window};
+use crestulbino::{Built, Kind, Label, Opening, Refused, Row, Verdict, Version, Versions, Window};
 
 /// What a call comes to.
 pub type Answer<T> = Result<T, Refused>;
@@ -12,15 +12,15 @@ pub type Answer<T> = Result<T, Refused>;
 /// An implementation of the calls, with the types of the crate over the proved library.
 #[derive(Clone, Copy, Debug)]
 pub struct Library {
-    pub read_label: fn(&[u8]) -> Answer<Label>,
-    pub write_label: fn(&[u8], usize, &mut [u8]) -> Answer<usize>,
+    pub read_label: fn(Versions, &[u8]) -> Answer<Label>,
+    pub write_label: fn(Version, &[u8], usize, &mut [u8]) -> Answer<usize>,
     pub check: fn(Kind, &[u8]) -> Answer<usize>,
     pub read_row: fn(Kind, &[u8], usize, Window) -> Answer<Row<'_>>,
-    pub jump_labelled: for<'a> fn(&'a [u8], &[u32], usize, Window) -> Answer<Row<'a>>,
+    pub jump_labelled: for<'a> fn(Versions, &'a [u8], &[u32], usize, Window) -> Answer<Row<'a>>,
     pub jump_waveform: fn(&[u8], usize, Window) -> Answer<Row<'_>>,
     pub row_from: fn(Kind, &[u8], usize) -> Answer<Row<'_>>,
-    pub build_index: fn(&[u8], &mut [u32]) -> Answer<Built>,
-    pub check_index: fn(&[u8], &[u32]) -> Answer<()>,
+    pub build_index: fn(Versions, &[u8], &mut [u32]) -> Answer<Built>,
+    pub check_index: fn(Versions, &[u8], &[u32]) -> Answer<()>,
     pub keep_index: fn(&[u32], &mut [u8]) -> Answer<usize>,
     pub load_kept: fn(&[u8], &mut [u32]) -> Answer<usize>,
     pub sample: fn(u8) -> i64,

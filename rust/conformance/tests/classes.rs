@@ -3,7 +3,7 @@
 
 use conformance::generator::{files, random::Random};
 use conformance::library::{Library, INDEPENDENT, PROVED};
-use crestulbino::{Kind, Refusal, Refused, Window};
+use crestulbino::{Kind, Refusal, Refused, Versions, Window};
 
 const LIBRARIES: [Library; 2] = [INDEPENDENT, PROVED];
 
@@ -33,8 +33,9 @@ fn each_class_at_each_depth() {
             let value = depth * LABEL;
             let check = |inside: &str| {
                 let file = enclosed(object(class, inside), depth - 1);
-                let rows = (library.check)(Kind::Labelled, file.as_bytes());
-                let first = (library.row_from)(Kind::Labelled, file.as_bytes(), 0);
+                let kind = Kind::Labelled(Versions::One);
+                let rows = (library.check)(kind, file.as_bytes());
+                let first = (library.row_from)(kind, file.as_bytes(), 0);
                 (rows, first.map(|row| row.place))
             };
             let is_opened = ['F', 'U', 'Z'].contains(&class);
@@ -64,32 +65,44 @@ fn each_class_at_each_depth() {
     }
 }
 
-/// The same bytes with other ones of the three letters, in labels and values alike.
+/// The same bytes with other ones of the three letters, in labels and values alike, but for binary
+/// lengths, in which they are numbers.
 fn exchanged(file: &[u8], random: &mut Random) -> Vec<u8> {
-    let other = |&byte: &u8| match byte {
-        b'F' | b'U' | b'Z' => random.pick(b"FUZ"),
-        _ => byte,
-    };
-    file.iter().map(other).collect()
+    let mut other = file.to_vec();
+    for (place, byte) in other.iter_mut().enumerate() {
+        let is_letter = matches!(byte, b'F' | b'U' | b'Z');
+        if is_letter && !is_in_binary_length(file, place) {
+            *byte = random.pick(b"FUZ");
+        }
+    }
+    other
+}
+
+/// Whether a byte is in the last eight of what has an agency and a 2 in front.
+fn is_in_binary_length(file: &[u8], place: usize) -> bool {
+    let fronts = (12..LABEL).filter_map(|before| place.checked_sub(before));
+    let mut fronts = fronts.map(|front| &file[front..front + 5]);
+    fronts.any(|front| matches!(front, b"NJPL2" | b"CCSD2"))
 }
 
 /// What a library says of a file: its rows, its index, each row read and jumped to, and the first
 /// row from each place, with every refusal and every place, but without the bytes themselves.
-fn all_answers(library: &Library, file: &[u8], list: &[u32]) -> String {
+fn all_answers(library: &Library, versions: Versions, file: &[u8], list: &[u32]) -> String {
+    let kind = Kind::Labelled(versions);
     let mut built = [7; 8];
-    let index = (library.build_index)(file, &mut built);
-    let checked = (library.check)(Kind::Labelled, file);
-    let accepted = (library.check_index)(file, list);
+    let index = (library.build_index)(versions, file, &mut built);
+    let checked = (library.check)(kind, file);
+    let accepted = (library.check_index)(versions, file, list);
     let mut answers = format!("{checked:?} {index:?} {built:?} {accepted:?}");
     for row in 0..=checked.unwrap_or(2) {
         let window = Window::new(0, row % 3);
-        let read = (library.read_row)(Kind::Labelled, file, row, window);
-        let jumped = (library.jump_labelled)(file, list, row, window);
+        let read = (library.read_row)(kind, file, row, window);
+        let jumped = (library.jump_labelled)(versions, file, list, row, window);
         let places = [read, jumped].map(|row| row.map(|row| row.place));
         answers += &format!(" {places:?}");
     }
     for from in 0..=file.len().min(200) {
-        let row = (library.row_from)(Kind::Labelled, file, from);
+        let row = (library.row_from)(kind, file, from);
         let part = row.map(|row| (row.place, row.bytes.len()));
         answers += &format!(" {part:?}");
     }
@@ -110,9 +123,10 @@ fn the_three_letters_are_the_same_to_every_call() {
         let list = file.index();
         let other = exchanged(&file.bytes, &mut random);
         changed += u32::from(other != file.bytes);
+        let versions = random.pick(&[Versions::One, Versions::OneAndTwo, Versions::OneAndTwo]);
         for library in &LIBRARIES {
-            let answers = all_answers(library, &file.bytes, &list);
-            assert_eq!(answers, all_answers(library, &other, &list));
+            let answers = all_answers(library, versions, &file.bytes, &list);
+            assert_eq!(answers, all_answers(library, versions, &other, &list));
             accepted += u32::from(answers.starts_with("Ok"));
         }
     }

@@ -20,6 +20,13 @@ fn expect(case: &str, answer: &str) {
     }
 }
 
+/// The same answer whether version 2 is allowed or not: no label here is of version 2.
+fn told(case: &str, answer: &str) {
+    for versions in [1, 2] {
+        expect(&format!("{case} {versions}"), answer);
+    }
+}
+
 /// Groups nested so deep, with `inside` in the innermost.
 fn nested(depth: usize, inside: &str) -> String {
     (0..depth).fold(inside.to_string(), |value, _| {
@@ -29,58 +36,58 @@ fn nested(depth: usize, inside: &str) -> String {
 
 #[test]
 fn case_1_the_empty_file() {
-    expect("check_labelled -", "ok 0");
-    expect("read_row_labelled - 0 0 0", "ref 6 0");
-    expect("build_index - -", "ok 0 0 -");
-    expect("check_index - -", "ok");
-    expect("jump_labelled - - 0 0 0", "ref 6 0");
+    told("check_labelled -", "ok 0");
+    told("read_row_labelled - 0 0 0", "ref 6 0");
+    told("build_index - -", "ok 0 0 -");
+    told("check_index - -", "ok");
+    told("jump_labelled - - 0 0 0", "ref 6 0");
 }
 
 #[test]
 fn case_2_nineteen_zero_bytes() {
     let file = hex([0; 19]);
-    expect(&format!("check_labelled {file}"), "ref 1 0");
-    expect(&format!("read_row_labelled {file} 0 0 0"), "ref 1 0");
+    told(&format!("check_labelled {file}"), "ref 1 0");
+    told(&format!("read_row_labelled {file} 0 0 0"), "ref 1 0");
 }
 
 #[test]
 fn case_3_the_demonstration_file() {
     let file = hex(DEMO);
-    expect(&format!("check_labelled {file}"), "ok 2");
-    expect(&format!("read_row_labelled {file} 0 0 3"), "ok 40 616263");
-    expect(&format!("read_row_labelled {file} 1 0 0"), "ok 63 -");
-    expect(&format!("jump_labelled {file} 20 0 0 3"), "ok 40 616263");
-    expect(&format!("jump_labelled {file} 20 1 0 0"), "ok 63 -");
-    expect(&format!("build_index {file} 7,8"), "ok 1 2 20,8");
-    expect(&format!("check_index {file} 20"), "ok");
+    told(&format!("check_labelled {file}"), "ok 2");
+    told(&format!("read_row_labelled {file} 0 0 3"), "ok 40 616263");
+    told(&format!("read_row_labelled {file} 1 0 0"), "ok 63 -");
+    told(&format!("jump_labelled {file} 20 0 0 3"), "ok 40 616263");
+    told(&format!("jump_labelled {file} 20 1 0 0"), "ok 63 -");
+    told(&format!("build_index {file} 7,8"), "ok 1 2 20,8");
+    told(&format!("check_index {file} 20"), "ok");
     let label = hex(&DEMO[20..40]);
-    expect(
+    told(
         &format!("read_label {label}"),
-        "ok 4e4a504c 49 44454d4f 3 0",
+        "ok 4e4a504c 1 49 44454d4f 3 0",
     );
 }
 
 #[test]
 fn case_4_the_outer_length_one_less() {
     let file = hex(DEMO.replace("00000043", "00000042"));
-    expect(&format!("check_labelled {file}"), "ref 1 43");
+    told(&format!("check_labelled {file}"), "ref 1 43");
 }
 
 #[test]
 fn case_5_an_inner_length_too_long() {
     let file = hex(DEMO.replacen("00000003", "00000024", 1));
-    expect(&format!("check_labelled {file}"), "ref 4 20");
+    told(&format!("check_labelled {file}"), "ref 4 20");
 }
 
 #[test]
 fn case_6_depth_eight_and_nine() {
     let eight = nested(8, "");
     assert_eq!(eight.len(), 160);
-    expect(&format!("check_labelled {}", hex(eight)), "ok 0");
+    told(&format!("check_labelled {}", hex(eight)), "ok 0");
     let nine = nested(8, "NJPL1I00DEMO00000000");
-    expect(&format!("check_labelled {}", hex(nine)), "ref 5 160");
+    told(&format!("check_labelled {}", hex(nine)), "ref 5 160");
     let leaf_at_eight = nested(7, "NJPL1I00DEMO00000000");
-    expect(&format!("check_labelled {}", hex(leaf_at_eight)), "ok 1");
+    told(&format!("check_labelled {}", hex(leaf_at_eight)), "ok 1");
 }
 
 #[test]
@@ -137,12 +144,18 @@ fn case_12_limits_of_element_141() {
 
 #[test]
 fn lent_memory_is_shown_on_refusals_too() {
-    expect("write_label - 0 00", "ref 2 0 00");
-    expect("write_label 4e4a504c314930304445 0 -", "ref 2 0 -");
+    for version in [1, 2] {
+        expect(&format!("write_label {version} - 0 00"), "ref 2 0 00");
+        let eleven = format!(
+            "write_label {version} 4e4a504c{:02x}493030444500 0 -",
+            0x30 + version
+        );
+        expect(&eleven, "ref 2 0 -");
+    }
     expect("keep_index 20 aabb", "ref 8 0 aabb");
     expect("load_kept 02000000010000 5,6", "ref 13 0 5,6");
     expect("load_kept 06000000010014000000 5,6", "ok 1 20,6");
-    expect("build_index 00 5,6", "ref 1 0 5,6");
+    told("build_index 00 5,6", "ref 1 0 5,6");
     expect("opening 00", "ref 1 0");
     expect("verdict 4 0", "ref 10 0");
     expect("no_such_call 0", "bad line");

@@ -1,9 +1,10 @@
 //! Every single-byte damage of nested files with groups of all classes, with and without spaces in
-//! their lengths: both implementations say the same of the check, of each row read, of the index, of
-//! each jump and of going on from each label.
+//! their lengths, with labels of version 1, of version 2 and of both: both implementations, told each
+//! choice, say the same of the check, of each row read, of the index, of each jump and of going on
+//! from each label.
 
 use conformance::library::{INDEPENDENT, PROVED};
-use crestulbino::{Kind, Window};
+use crestulbino::{Kind, Versions, Window};
 
 fn leaf(value: &str) -> String {
     format!("NJPL1I00DEMO{:08}{value}", value.len())
@@ -48,47 +49,66 @@ fn padded(file: &[u8]) -> Vec<u8> {
     padded
 }
 
+/// The same file with its labels in version 2.
+fn version_2(file: &[u8]) -> Vec<u8> {
+    let mut file = file.to_vec();
+    for place in labels(&file) {
+        let label = &mut file[place..place + 20];
+        let digits = std::str::from_utf8(&label[12..]).unwrap();
+        let length: u64 = digits.parse().unwrap();
+        label[4] = b'2';
+        label[12..].copy_from_slice(&length.to_be_bytes());
+    }
+    file
+}
+
 /// The answers of both implementations to the same calls are the same.
-fn assert_same(file: &[u8], rows: usize, index: &[u32], places: &[usize]) {
+fn assert_same(versions: Versions, file: &[u8], rows: usize, index: &[u32], places: &[usize]) {
     let (one, other) = (INDEPENDENT, PROVED);
-    let checked = (one.check)(Kind::Labelled, file);
-    assert_eq!(checked, (other.check)(Kind::Labelled, file));
+    let kind = Kind::Labelled(versions);
+    let checked = (one.check)(kind, file);
+    assert_eq!(checked, (other.check)(kind, file));
     let mut lists = [[7; 3]; 2];
-    let built = (one.build_index)(file, &mut lists[0]);
-    assert_eq!(built, (other.build_index)(file, &mut lists[1]));
+    let built = (one.build_index)(versions, file, &mut lists[0]);
+    assert_eq!(built, (other.build_index)(versions, file, &mut lists[1]));
     assert_eq!(lists[0], lists[1]);
     let own = &lists[0][..built.map_or(0, |built| built.entries)];
     for list in [index, own] {
         assert_eq!(
-            (one.check_index)(file, list),
-            (other.check_index)(file, list)
+            (one.check_index)(versions, file, list),
+            (other.check_index)(versions, file, list)
         );
     }
     for row in 0..=rows {
         let window = Window::new(0, row % 3);
         assert_eq!(
-            (one.read_row)(Kind::Labelled, file, row, window),
-            (other.read_row)(Kind::Labelled, file, row, window)
+            (one.read_row)(kind, file, row, window),
+            (other.read_row)(kind, file, row, window)
         );
         for list in [index, own] {
             assert_eq!(
-                (one.jump_labelled)(file, list, row, window),
-                (other.jump_labelled)(file, list, row, window)
+                (one.jump_labelled)(versions, file, list, row, window),
+                (other.jump_labelled)(versions, file, list, row, window)
             );
         }
     }
     for &from in places {
         assert_eq!(
-            (one.row_from)(Kind::Labelled, file, from),
-            (other.row_from)(Kind::Labelled, file, from)
+            (one.row_from)(kind, file, from),
+            (other.row_from)(kind, file, from)
         );
     }
 }
 
 /// Damages each byte of a file with each value, and counts the files that are still accepted.
-fn damage(file: &[u8], rows: usize, values: impl Iterator<Item = u8> + Clone) -> usize {
+fn damage(
+    versions: Versions,
+    file: &[u8],
+    rows: usize,
+    values: impl Iterator<Item = u8> + Clone,
+) -> usize {
     let mut list = [0; 3];
-    let built = (INDEPENDENT.build_index)(file, &mut list).unwrap();
+    let built = (INDEPENDENT.build_index)(Versions::OneAndTwo, file, &mut list).unwrap();
     assert_eq!(built.rows, rows);
     let index = &list[..built.entries];
     let mut places = labels(file);
@@ -98,34 +118,54 @@ fn damage(file: &[u8], rows: usize, values: impl Iterator<Item = u8> + Clone) ->
     for (place, &good) in file.iter().enumerate() {
         for value in values.clone() {
             damaged[place] = value;
-            assert_same(&damaged, rows, index, &places);
-            accepted += usize::from((PROVED.check)(Kind::Labelled, &damaged).is_ok());
+            assert_same(versions, &damaged, rows, index, &places);
+            let checked = (PROVED.check)(Kind::Labelled(versions), &damaged);
+            accepted += usize::from(checked.is_ok());
         }
         damaged[place] = good;
     }
     accepted
 }
 
+/// The file in every form, with the choices for it: in version 1, in version 2, and in version 1 with
+/// version 2 behind its first half. With version 2 in front, version 1 only would be the same refusal
+/// over and over.
+fn forms(file: &[u8]) -> [(Versions, Vec<u8>); 5] {
+    let places = labels(file);
+    let (front, back) = file.split_at(places[places.len() / 2]);
+    let late = [padded(front), version_2(back)].concat();
+    [
+        (Versions::One, file.to_vec()),
+        (Versions::One, padded(file)),
+        (Versions::One, late.clone()),
+        (Versions::OneAndTwo, late),
+        (Versions::OneAndTwo, version_2(file)),
+    ]
+}
+
+/// At least so many damaged files are accepted: none if the file itself is not.
+fn least(versions: Versions, file: &[u8], accepted: usize) -> usize {
+    let checked = (INDEPENDENT.check)(Kind::Labelled(versions), file);
+    checked.map_or(0, |_| accepted)
+}
+
 #[test]
 fn every_value_in_every_byte_of_a_small_file() {
-    let file = small_file();
-    for file in [padded(&file), file] {
-        let accepted = damage(&file, 6, 0..=255);
+    for (versions, file) in forms(&small_file()) {
+        let accepted = damage(versions, &file, 6, 0..=255);
         let tried = 256 * file.len();
-        assert!(
-            (file.len()..tried).contains(&accepted),
-            "{accepted} of {tried}"
-        );
+        let least = least(versions, &file, file.len());
+        assert!((least..tried).contains(&accepted), "{accepted} of {tried}");
     }
 }
 
 #[test]
 fn telling_values_in_every_byte_of_a_file_with_two_entries() {
-    let file = two_entries_file();
-    let values = b"\0\t /01289:@ACFNPUYZ[afuz\x7f\x80\xb0\xff";
-    for file in [padded(&file), file] {
-        let accepted = damage(&file, 18, values.iter().copied());
+    let values = b"\0\x01\x02\x03\t /01289:@ACFNPUYZ[afuz\x7f\x80\xb0\xff";
+    for (versions, file) in forms(&two_entries_file()) {
+        let accepted = damage(versions, &file, 18, values.iter().copied());
         let tried = values.len() * file.len();
-        assert!((1..tried).contains(&accepted), "{accepted} of {tried}");
+        let least = least(versions, &file, 1);
+        assert!((least..tried).contains(&accepted), "{accepted} of {tried}");
     }
 }

@@ -4,25 +4,32 @@ use conformance::generator::published::{
     pass_file, per_orbit_record, volume_header, volume_trailer,
 };
 use conformance::library::{INDEPENDENT, PROVED};
-use crestulbino::Kind;
+use crestulbino::{Kind, Versions};
+use independent::label;
 use independent::labelled::{check, leaves, read_row, Leaf};
 use independent::orbit::{opening, Opening};
 use independent::row_index::{self, Built};
 use independent::window::Window;
 
+const FIRST: label::Versions = label::Versions::First;
+
 fn all_leaves(file: &[u8]) -> Vec<Leaf> {
-    let passed: Result<Vec<Leaf>, _> = leaves(file).unwrap().collect();
+    let passed: Result<Vec<Leaf>, _> = leaves(FIRST, file).unwrap().collect();
     passed.unwrap()
 }
 
 /// Value place, length, class and description of each row. Both implementations find its bytes
-/// there.
+/// there, whether version 2 is allowed or not.
 fn rows(file: &[u8]) -> Vec<(u64, u64, char, String)> {
     for (number, leaf) in all_leaves(file).iter().enumerate() {
         let (start, length) = (leaf.row.start as usize, leaf.row.length as usize);
-        for library in [INDEPENDENT, PROVED] {
+        let told = [Versions::One, Versions::OneAndTwo].map(Kind::Labelled);
+        for (library, kind) in [INDEPENDENT, PROVED]
+            .iter()
+            .flat_map(|l| told.map(|k| (l, k)))
+        {
             let window = crestulbino::Window::new(0, length);
-            let row = (library.read_row)(Kind::Labelled, file, number, window).unwrap();
+            let row = (library.read_row)(kind, file, number, window).unwrap();
             assert_eq!(
                 (row.place, row.bytes),
                 (start, &file[start..start + length])
@@ -72,7 +79,7 @@ fn the_volume_header() {
     ] {
         assert!(header[from..].starts_with(field.as_bytes()), "{field}");
     }
-    let window = read_row(&header, 0, Window::new(61 - 40, 27)).unwrap();
+    let window = read_row(FIRST, &header, 0, Window::new(61 - 40, 27)).unwrap();
     assert_eq!(window.place, 61);
     assert_eq!(window.bytes, b"MINOR_DATA_CODE=F00376.01\r\n");
 }
@@ -95,13 +102,13 @@ fn both_records_end_to_end() {
         entries: 1,
         rows: 4,
     };
-    assert_eq!(row_index::build(&file, &mut list), Ok(built));
+    assert_eq!(row_index::build(FIRST, &file, &mut list), Ok(built));
     assert_eq!(list, [20, 0]);
     for number in 0..4 {
         let window = Window::new(1, 20);
         assert_eq!(
-            row_index::jump(&file, &list[..1], number, window),
-            read_row(&file, number, window)
+            row_index::jump(FIRST, &file, &list[..1], number, window),
+            read_row(FIRST, &file, number, window)
         );
     }
 }
@@ -113,7 +120,7 @@ fn the_opening_stands_behind_the_secondary_header() {
     block.extend([0x80, 0xc0, 0, 0, 0, 0, 0, 0]);
     let record = per_orbit_record(&block);
     assert_eq!(rows(&record), [row(20, 520, 'I', "0104")]);
-    let data = read_row(&record, 0, Window::new(8, 512)).unwrap();
+    let data = read_row(FIRST, &record, 0, Window::new(8, 512)).unwrap();
     assert_eq!(data.place, 28);
     let expected = Opening {
         orbit: 376,
@@ -131,7 +138,7 @@ fn a_pass_file_of_the_printed_size() {
     assert_eq!(file.len(), 5_571_520);
     assert!(file.starts_with(b"CCSD1Z00000105571500NJPL1I00T00105571480"));
     assert_eq!(rows(&file), [row(40, 5_571_480, 'I', "T001")]);
-    let last = read_row(&file, 0, Window::new(5_571_479, 1)).unwrap();
+    let last = read_row(FIRST, &file, 0, Window::new(5_571_479, 1)).unwrap();
     assert_eq!(last.place, 5_571_519);
-    assert!(check(&file[..file.len() - 1]).is_err());
+    assert!(check(FIRST, &file[..file.len() - 1]).is_err());
 }

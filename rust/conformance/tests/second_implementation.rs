@@ -2,12 +2,18 @@
 //! jump beside reading.
 
 use conformance::generator::{files, random::Random};
+use independent::label::Versions;
 use independent::refusal::{Reason, Refusal};
 use independent::window::Window;
 use independent::{label, labelled, row_index};
 
 /// The check once more, as one function that calls itself on each group.
-fn check_by_recursion(file: &[u8], from: usize, end: usize, left: u8) -> Result<u64, Refusal> {
+fn check_by_recursion(
+    versions: Versions,
+    file: &[u8],
+    (from, end): (usize, usize),
+    left: u8,
+) -> Result<u64, Refusal> {
     let mut rows = 0;
     let mut place = from;
     while place < end {
@@ -15,16 +21,20 @@ fn check_by_recursion(file: &[u8], from: usize, end: usize, left: u8) -> Result<
         if left == 0 {
             return Err(at(Reason::Deep));
         }
-        let label = label::read(&file[place..end]).map_err(|refusal| at(refusal.reason))?;
-        let (value, length) = (place + 20, label.length as usize);
-        if length > end - value {
+        let label =
+            label::read(versions, &file[place..end]).map_err(|refusal| at(refusal.reason))?;
+        let value = place + 20;
+        // As wide as a length and a place together.
+        let value_end = value as u128 + u128::from(label.length);
+        if value_end > end as u128 {
             return Err(at(Reason::Overrun));
         }
+        let value_end = value_end as usize;
         rows += match label.class {
-            b'F' | b'U' | b'Z' => check_by_recursion(file, value, value + length, left - 1)?,
+            b'F' | b'U' | b'Z' => check_by_recursion(versions, file, (value, value_end), left - 1)?,
             _ => 1,
         };
-        place = value + length;
+        place = value_end;
     }
     Ok(rows)
 }
@@ -38,11 +48,14 @@ fn the_pass_agrees_with_recursion() {
         if random.chance(60) {
             files::damage(&mut file, &mut random);
         }
-        let expected = check_by_recursion(&file.bytes, 0, file.bytes.len(), 8);
-        assert_eq!(labelled::check(&file.bytes), expected);
-        accepted += u32::from(expected.is_ok());
+        for versions in [Versions::First, Versions::Both] {
+            let all = (0, file.bytes.len());
+            let expected = check_by_recursion(versions, &file.bytes, all, 8);
+            assert_eq!(labelled::check(versions, &file.bytes), expected);
+            accepted += u32::from(expected.is_ok());
+        }
     }
-    assert!((1_000..3_900).contains(&accepted), "{accepted} accepted");
+    assert!((1_000..6_000).contains(&accepted), "{accepted} accepted");
 }
 
 #[test]
@@ -50,16 +63,18 @@ fn a_right_index_gives_what_reading_gives() {
     let mut random = Random::new(16);
     for _ in 0..1_500 {
         let file = files::labelled(&mut random).bytes;
-        let Ok(rows) = labelled::check(&file) else {
+        let Ok(rows) = labelled::check(Versions::Both, &file) else {
             continue;
         };
         let mut list = [0; 64];
-        let used = row_index::build(&file, &mut list).unwrap().entries as usize;
+        let used = row_index::build(Versions::Both, &file, &mut list)
+            .unwrap()
+            .entries as usize;
         for number in 0..rows + 2 {
             for window in [Window::new(0, 0), Window::new(1, 2), Window::new(0, 20)] {
                 assert_eq!(
-                    row_index::jump(&file, &list[..used], number, window),
-                    labelled::read_row(&file, number, window)
+                    row_index::jump(Versions::Both, &file, &list[..used], number, window),
+                    labelled::read_row(Versions::Both, &file, number, window)
                 );
             }
         }
@@ -71,18 +86,21 @@ fn going_on_from_row_to_row_gives_what_reading_gives() {
     let mut random = Random::new(17);
     for _ in 0..1_500 {
         let file = files::labelled(&mut random).bytes;
-        let Ok(rows) = labelled::check(&file) else {
+        let Ok(rows) = labelled::check(Versions::Both, &file) else {
             continue;
         };
         let mut from = 0;
         for number in 0..rows {
-            let part = labelled::row_from(&file, from).unwrap();
+            let part = labelled::row_from(Versions::Both, &file, from).unwrap();
             let whole = Window::new(0, part.bytes.len() as u64);
-            assert_eq!(labelled::read_row(&file, number, whole), Ok(part));
+            assert_eq!(
+                labelled::read_row(Versions::Both, &file, number, whole),
+                Ok(part)
+            );
             from = part.place + part.bytes.len() as u64;
         }
         assert_eq!(
-            labelled::row_from(&file, from),
+            labelled::row_from(Versions::Both, &file, from),
             Err(Reason::NoRow.at_start())
         );
     }

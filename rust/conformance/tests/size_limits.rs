@@ -5,9 +5,17 @@
 
 use conformance::library::{INDEPENDENT, PROVED};
 use conformance::Library;
-use crestulbino::{Kind, Refusal, Refused, Row, Window};
+use crestulbino::{Kind, Refusal, Refused, Row, Version, Versions, Window};
 
 const BOTH: [Library; 2] = [INDEPENDENT, PROVED];
+
+const CHOICES: [Versions; 2] = [Versions::One, Versions::OneAndTwo];
+
+/// Each implementation with each choice.
+fn told() -> impl Iterator<Item = (Library, Versions)> {
+    let with = |library| CHOICES.map(|versions| (library, versions));
+    BOTH.into_iter().flat_map(with)
+}
 
 /// The most bytes that a file may have.
 const MOST: usize = 4_294_967_295;
@@ -50,15 +58,16 @@ fn labelled(size: usize) -> Vec<u8> {
 fn the_largest_labelled_file() {
     let file = labelled(MOST);
     let index = [0, 1_600_000_304, 3_200_000_608];
-    for library in BOTH {
-        assert_eq!((library.check)(Kind::Labelled, &file), Ok(43));
+    for (library, versions) in told() {
+        let kind = Kind::Labelled(versions);
+        assert_eq!((library.check)(kind, &file), Ok(43));
         let mut list = [7; 4];
-        let built = (library.build_index)(&file, &mut list).unwrap();
+        let built = (library.build_index)(versions, &file, &mut list).unwrap();
         assert_eq!((built.entries, built.rows), (3, 43));
         assert_eq!(list, [index[0], index[1], index[2], 7]);
-        assert_eq!((library.check_index)(&file, &index), Ok(()));
+        assert_eq!((library.check_index)(versions, &file, &index), Ok(()));
         assert_eq!(
-            (library.check_index)(&file, &list),
+            (library.check_index)(versions, &file, &list),
             refused(Refusal::BadIndex)
         );
         for (first, count, expected) in [
@@ -68,9 +77,9 @@ fn the_largest_labelled_file() {
             (0, LAST_LENGTH, Ok((LAST_LABEL + 20, LAST_LENGTH))),
         ] {
             let window = Window::new(first, count);
-            let read = (library.read_row)(Kind::Labelled, &file, 42, window);
+            let read = (library.read_row)(kind, &file, 42, window);
             assert_eq!(stands(read), expected);
-            let jumped = (library.jump_labelled)(&file, &index, 42, window);
+            let jumped = (library.jump_labelled)(versions, &file, &index, 42, window);
             assert_eq!(stands(jumped), expected);
         }
         for (from, expected) in [
@@ -80,22 +89,93 @@ fn the_largest_labelled_file() {
             (MOST, refused(Refusal::NoRow)),
             (MOST + 1, refused(Refusal::NoRow)),
         ] {
-            let row = (library.row_from)(Kind::Labelled, &file, from);
+            let row = (library.row_from)(kind, &file, from);
             assert_eq!(stands(row), expected);
         }
         let entry = |place: usize| [u32::try_from(place).unwrap()];
-        let jumped = (library.jump_labelled)(&file, &entry(MOST), 0, EMPTY);
+        let jumped = (library.jump_labelled)(versions, &file, &entry(MOST), 0, EMPTY);
         assert_eq!(stands(jumped), refused(Refusal::NoRow));
-        let jumped = (library.jump_labelled)(&file[1..], &entry(MOST), 0, EMPTY);
+        let jumped = (library.jump_labelled)(versions, &file[1..], &entry(MOST), 0, EMPTY);
         assert_eq!(stands(jumped), refused(Refusal::BadIndex));
+    }
+}
+
+/// A file of so many bytes, all of it one row of version 2, inside of so many groups of it.
+fn one_row(size: usize, groups: usize) -> Vec<u8> {
+    let mut file = vec![0; size];
+    for number in 0..=groups {
+        let head = if number < groups {
+            b"CCSD2Z000001"
+        } else {
+            b"NJPL2I00DEMO"
+        };
+        let label = &mut file[20 * number..20 * (number + 1)];
+        label[..12].copy_from_slice(head);
+        let length = (size - 20 * (number + 1)) as u64;
+        label[12..].copy_from_slice(&length.to_be_bytes());
+    }
+    file
+}
+
+/// Lengths of more than eight digits, which just fit or are a byte too long, and the same in more
+/// bits than a place has.
+#[test]
+fn the_largest_file_in_version_2() {
+    let kind = Kind::Labelled(Versions::OneAndTwo);
+    for groups in 0..8 {
+        let mut file = one_row(MOST, groups);
+        let (label, value) = (20 * groups, 20 * (groups + 1));
+        let length = MOST - value;
+        let index = [label as u32];
+        for library in BOTH {
+            assert_eq!((library.check)(kind, &file), Ok(1));
+            let mut list = [7; 2];
+            let built = (library.build_index)(Versions::OneAndTwo, &file, &mut list).unwrap();
+            assert_eq!((built.entries, built.rows, list), (1, 1, [index[0], 7]));
+            for (first, count, expected) in [
+                (length - 1, 1, Ok((MOST - 1, 1))),
+                (length, 0, Ok((MOST, 0))),
+                (0, length, Ok((value, length))),
+                (1, length, refused(Refusal::NoPart)),
+            ] {
+                let window = Window::new(first, count);
+                let read = (library.read_row)(kind, &file, 0, window);
+                assert_eq!(stands(read), expected);
+                let jumped = (library.jump_labelled)(Versions::OneAndTwo, &file, &index, 0, window);
+                assert_eq!(stands(jumped), expected);
+            }
+            let row = (library.row_from)(kind, &file, 0);
+            assert_eq!(stands(row), Ok((value, length)));
+            let one = Kind::Labelled(Versions::One);
+            assert_eq!((library.check)(one, &file), refused(Refusal::BadLabel));
+        }
+        // The row, then the group around it: each wrong in turn.
+        for number in [groups, groups.saturating_sub(1)] {
+            let place = 20 * number;
+            let right = (MOST - place - 20) as u64;
+            for wrong in [right + 1, right | 1 << 32, right | 1 << 63, u64::MAX] {
+                file[place + 12..place + 20].copy_from_slice(&wrong.to_be_bytes());
+                let walked = match number == groups {
+                    true => refused_at(Refusal::Overrun, place),
+                    false => Ok((value, length)),
+                };
+                for library in BOTH {
+                    let rows = (library.check)(kind, &file);
+                    assert_eq!(rows, refused_at(Refusal::Overrun, place));
+                    let row = (library.row_from)(kind, &file, 0);
+                    assert_eq!(stands(row), walked);
+                }
+            }
+            file[place + 12..place + 20].copy_from_slice(&right.to_be_bytes());
+        }
     }
 }
 
 #[test]
 fn zeros_of_the_largest_size_are_no_labelled_file() {
     let file = vec![0; MOST];
-    for library in BOTH {
-        let rows = (library.check)(Kind::Labelled, &file);
+    for (library, versions) in told() {
+        let rows = (library.check)(Kind::Labelled(versions), &file);
         assert_eq!(rows, refused(Refusal::BadLabel));
     }
 }
@@ -103,23 +183,23 @@ fn zeros_of_the_largest_size_are_no_labelled_file() {
 #[test]
 fn one_byte_more_than_a_file_may_have() {
     let file = labelled(MOST + 1);
-    for library in BOTH {
-        for kind in [Kind::Labelled, Kind::Waveform] {
+    for (library, versions) in told() {
+        for kind in [Kind::Labelled(versions), Kind::Waveform] {
             assert_eq!((library.check)(kind, &file), refused(Refusal::TooBig));
             let read = (library.read_row)(kind, &file, 0, EMPTY);
             assert_eq!(stands(read), refused(Refusal::TooBig));
             let row = (library.row_from)(kind, &file, 0);
             assert_eq!(stands(row), refused(Refusal::TooBig));
         }
-        let jumped = (library.jump_labelled)(&file, &[], 0, EMPTY);
+        let jumped = (library.jump_labelled)(versions, &file, &[], 0, EMPTY);
         assert_eq!(stands(jumped), refused(Refusal::TooBig));
         let jumped = (library.jump_waveform)(&file, 0, EMPTY);
         assert_eq!(stands(jumped), refused(Refusal::TooBig));
         let mut list = [7; 4];
-        let built = (library.build_index)(&file, &mut list);
+        let built = (library.build_index)(versions, &file, &mut list);
         assert_eq!(built, refused(Refusal::TooBig));
         assert_eq!(list, [7; 4]);
-        let checked = (library.check_index)(&file, &[0]);
+        let checked = (library.check_index)(versions, &file, &[0]);
         assert_eq!(checked, refused(Refusal::TooBig));
     }
 }
@@ -216,16 +296,21 @@ fn more_bytes_than_a_file_may_have_where_none_is_lent() {
     let mut head = vec![0; TURN + 12];
     head[..12].copy_from_slice(b"NJPL1I00DEMO");
     let zeros = vec![0; TURN + 19];
-    for library in BOTH {
+    for (library, versions) in told() {
         assert_eq!(
-            (library.read_label)(&label).map(|label| label.length),
+            (library.read_label)(versions, &label).map(|label| label.length),
             Ok(3)
         );
+    }
+    for library in BOTH {
         let mut buffer = vec![0; TURN + 19];
-        let written = (library.write_label)(b"NJPL1I00DEMO", 3, &mut buffer);
+        let written = (library.write_label)(Version::One, b"NJPL1I00DEMO", 3, &mut buffer);
         assert_eq!(written, Ok(20));
         assert_eq!(buffer[..24], *b"NJPL1I00DEMO00000003\0\0\0\0");
-        let written = (library.write_label)(&head, 3, &mut buffer);
+        let written = (library.write_label)(Version::Two, b"NJPL2I00DEMO", TURN, &mut buffer);
+        assert_eq!(written, Ok(20));
+        assert_eq!(buffer[..24], *b"NJPL2I00DEMO\0\0\0\x01\0\0\0\0\0\0\0\0");
+        let written = (library.write_label)(Version::One, &head, 3, &mut buffer);
         assert_eq!(written, refused(Refusal::BadLabel));
         assert_eq!((library.vax_f)(&zeros[..TURN + 3]), Ok(0.0));
         assert_eq!((library.vax_d)(&zeros[..TURN + 7]), Ok(0.0));

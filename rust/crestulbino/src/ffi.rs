@@ -48,7 +48,7 @@ unsafe extern "C" {
 }
 
 #[inline]
-#[allow(clippy::too_many_arguments)]
+#[allow(clippy::too_many_arguments)] // Those of the header.
 pub(crate) fn read_label(
     bytes: &[u8],
     version_2: bool,
@@ -148,7 +148,7 @@ pub(crate) fn read_row_waveform(
 }
 
 #[inline]
-#[allow(clippy::too_many_arguments)]
+#[allow(clippy::too_many_arguments)] // Those of the header.
 pub(crate) fn jump_labelled(
     file: &[u8],
     version_2: bool,

@@ -2,6 +2,7 @@
 
 use super::published;
 use super::random::Random;
+use crestulbino::{Version, Versions};
 use independent::label::{GROUP_CLASSES, LABEL_BYTES};
 use independent::waveform::RECORD_BYTES;
 
@@ -10,6 +11,9 @@ const LABEL: usize = LABEL_BYTES as usize;
 /// The bytes of a label's length field, which are its last.
 const FIELD: usize = 8;
 
+/// Where a label says its version.
+const VERSION: usize = 4;
+
 /// The bytes of a waveform row with its prefix.
 pub const RECORD: usize = RECORD_BYTES as usize;
 
@@ -17,7 +21,7 @@ pub const RECORD: usize = RECORD_BYTES as usize;
 pub fn odd_bytes(position: usize) -> &'static [u8] {
     match position {
         0..=3 => b"NCXLnc \0",
-        4 => b"023l\xb1",
+        VERSION => b"0123l\xb1\0\x01\x02\x03",
         5 => b"@[`azfuAYZEFGTUV01",
         6 | 7 => b"1O9/: ",
         8..=11 => b"/:@[`az{09AZ ",
@@ -50,6 +54,34 @@ pub const BAD_FIELDS: [BadField; 8] = [
     |length| format!(" \t{length:06}"),
     |length| format!("\0{length:07}"),
 ];
+
+/// Binary lengths at which numbers of fewer bits, or with a sign, turn.
+pub const TURNS: [u64; 11] = [
+    (1 << 31) - 1,
+    1 << 31,
+    (1 << 31) + 1,
+    (1 << 32) - 1,
+    1 << 32,
+    (1 << 32) + 1,
+    (1 << 63) - 1,
+    1 << 63,
+    (1 << 63) + 1,
+    u64::MAX - 1,
+    u64::MAX,
+];
+
+/// Binary lengths that look like digits and spaces.
+pub const LOOK_LIKE_TEXT: [u64; 4] = [
+    u64::from_be_bytes(*b"00000003"),
+    u64::from_be_bytes(*b"99999999"),
+    u64::from_be_bytes(*b"       3"),
+    u64::from_be_bytes(*b"        "),
+];
+
+/// What stands in a label for its version.
+pub fn version_byte(version: Version) -> u8 {
+    b'0' + version.number()
+}
 
 /// A label as it was put into a file.
 #[derive(Clone, Copy, Debug)]
@@ -108,19 +140,53 @@ impl LabelledFile {
         places.into_iter().step_by(16).collect()
     }
 
-    /// Writes all lengths once more, some of them with spaces in front. Most files come to have
-    /// labels with and without.
-    fn pad(mut self, random: &mut Random) -> LabelledFile {
+    /// Whether a label at one of the spots is of version 2.
+    pub fn has_version_2(&self) -> bool {
+        let places = self.spots.iter().map(|spot| spot.place);
+        places
+            .into_iter()
+            .any(|place| self.version_at(place) == Version::Two)
+    }
+
+    /// The version of the label at `place`, by which its length is written.
+    fn version_at(&self, place: usize) -> Version {
+        match self.bytes.get(place + VERSION) {
+            Some(b'2') => Version::Two,
+            _ => Version::One,
+        }
+    }
+
+    /// Writes all labels once more: some in version 2, and of the lengths in version 1 some with
+    /// spaces in front. Most files come to have labels with and without.
+    fn relabelled(mut self, mix: Mix, random: &mut Random) -> LabelledFile {
         self.padded_percent = random.weighted(&[(20, 0), (30, 30), (35, 60), (15, 100)]);
-        for spot in self.spots.clone() {
-            self.set_length(spot.place, spot.length, random);
+        let labels = self.spots.len();
+        let chosen = random.between(0, labels.saturating_sub(1));
+        for (number, spot) in self.spots.clone().into_iter().enumerate() {
+            let is_two = match mix {
+                Mix::None => false,
+                Mix::All => true,
+                Mix::Half => random.chance(50),
+                Mix::Late => number >= chosen,
+                Mix::Single => number == chosen,
+                Mix::Groups => spot.is_group,
+                Mix::Leaves => !spot.is_group,
+            };
+            let version = if is_two { Version::Two } else { Version::One };
+            self.bytes[spot.place + VERSION] = version_byte(version);
+            self.set_length(spot.place, spot.length as u64, random);
         }
         self
     }
 
-    /// Rewrites the length of the label at `place`, with spaces in front as often as the file has
-    /// them.
-    fn set_length(&mut self, place: usize, length: usize, random: &mut Random) {
+    /// Rewrites the length of the label at `place` as its version has it, in version 1 with spaces in
+    /// front as often as the file has them.
+    fn set_length(&mut self, place: usize, length: u64, random: &mut Random) {
+        if self.version_at(place) == Version::Two {
+            self.set_field(place, &length.to_be_bytes());
+            return;
+        }
+        let length = length as usize;
         let most = most_spaces(length);
         let spaces = if !random.chance(self.padded_percent) {
             0
@@ -129,12 +195,47 @@ impl LabelledFile {
         } else {
             random.between(0, most)
         };
-        self.set_field(place, &length_field(spaces, length));
+        self.set_field(place, length_field(spaces, length).as_bytes());
     }
 
-    fn set_field(&mut self, place: usize, field: &str) {
+    fn set_field(&mut self, place: usize, field: &[u8]) {
         let label = &mut self.bytes[place..place + LABEL];
-        label[LABEL - FIELD..].copy_from_slice(field.as_bytes());
+        label[LABEL - FIELD..].copy_from_slice(field);
+    }
+}
+
+/// Which labels of a file are of version 2.
+#[derive(Clone, Copy, Debug)]
+pub enum Mix {
+    None,
+    All,
+    Half,
+    /// All from some label on.
+    Late,
+    Single,
+    Groups,
+    Leaves,
+}
+
+impl Mix {
+    fn any(random: &mut Random) -> Mix {
+        random.weighted(&[
+            (34, Mix::None),
+            (12, Mix::All),
+            (24, Mix::Half),
+            (10, Mix::Late),
+            (8, Mix::Single),
+            (6, Mix::Groups),
+            (6, Mix::Leaves),
+        ])
+    }
+
+    /// Labels that do not keep a call from what stands among them.
+    fn allowed(versions: Versions, random: &mut Random) -> Mix {
+        match versions {
+            Versions::One => Mix::None,
+            Versions::OneAndTwo => Mix::any(random),
+        }
     }
 }
 
@@ -253,16 +354,24 @@ fn group(random: &mut Random, inside: Vec<Object>) -> Object {
 fn value(random: &mut Random) -> Vec<u8> {
     if random.chance(10) {
         let mut looks_like = group_head(random).to_vec();
-        looks_like.extend(random.pick(&[
+        let fields = [
             b"00000000",
             b"00000020",
             b"99999999",
             b"      20",
             b" 9999999",
             b"        ",
-        ]));
+            b"\0\0\0\0\0\0\0\x14",
+            b"\xff\xff\xff\xff\xff\xff\xff\xff",
+        ];
+        looks_like.extend(random.pick(&fields));
         looks_like.extend(head(random, b'I'));
-        looks_like.extend(random.pick(&[b"00000000", b"       0"]));
+        looks_like.extend(random.pick(&[b"00000000", b"       0", b"\0\0\0\0\0\0\0\0"]));
+        for label in looks_like.chunks_exact_mut(LABEL) {
+            if random.chance(40) {
+                label[VERSION] = b'2';
+            }
+        }
         looks_like.truncate(random.pick(&[20, 40]));
         return looks_like;
     }
@@ -378,8 +487,15 @@ enum Shape {
     Large,
 }
 
-/// A labelled file without damage; only some chains of groups are refused.
+/// A labelled file without damage; only some chains of groups are refused. Labels of version 1 and
+/// of version 2 are mixed in it in some way.
 pub fn labelled(random: &mut Random) -> LabelledFile {
+    let mix = Mix::any(random);
+    labelled_with(mix, random)
+}
+
+/// A labelled file without damage, with labels of version 2 in this way.
+pub fn labelled_with(mix: Mix, random: &mut Random) -> LabelledFile {
     let shape = random.weighted(&[
         (4, Shape::Empty),
         (6, Shape::Demo),
@@ -412,7 +528,7 @@ pub fn labelled(random: &mut Random) -> LabelledFile {
         }
         Shape::Large => written(&large(random)),
     };
-    file.pad(random)
+    file.relabelled(mix, random)
 }
 
 /// An object that ends where what encloses it ends, but for what its length field holds.
@@ -432,29 +548,98 @@ pub enum Field {
     Beyond(usize),
     /// What is no length.
     Bad(BadField),
+    /// In this version, the object's length as the other one writes it.
+    OfOther(Version),
+    /// In version 2, this length.
+    Binary(Binary),
 }
 
-/// Each number of spaces at both sides of an object's end, and each bad field.
-pub fn last_objects() -> Vec<LastObject> {
-    let fields = || {
-        let fits = (0..FIELD).map(Field::Fits);
-        let beyond = (0..FIELD).map(Field::Beyond);
-        fits.chain(beyond).chain(BAD_FIELDS.map(Field::Bad))
-    };
-    let mut objects = Vec::new();
-    for (is_group, is_enclosed) in [(false, false), (false, true), (true, false), (true, true)] {
-        objects.extend(fields().map(|field| LastObject {
-            is_group,
-            is_enclosed,
-            field,
-        }));
+/// A binary length of an object: the right one, or one that is wrong in a way that narrow numbers,
+/// or sums that turn, do not see.
+#[derive(Clone, Copy, Debug)]
+pub enum Binary {
+    Fits,
+    Beyond,
+    Is(u64),
+    /// The object's length and so much more.
+    More(u64),
+    /// The object's length with its bytes in the other order.
+    Reversed,
+    /// What comes to 0 when the place of the object's value is added.
+    ToFront,
+}
+
+impl Binary {
+    pub fn of(self, length: usize, value: usize) -> u64 {
+        let (length, value) = (length as u64, value as u64);
+        match self {
+            Binary::Fits => length,
+            Binary::Beyond => length + 1,
+            Binary::Is(number) => number,
+            Binary::More(number) => length + number,
+            Binary::Reversed => length.swap_bytes(),
+            Binary::ToFront => value.wrapping_neg(),
+        }
     }
-    objects
+}
+
+/// Every binary length that is named above.
+pub fn binaries() -> Vec<Binary> {
+    let mut lengths = vec![
+        Binary::Fits,
+        Binary::Beyond,
+        Binary::Reversed,
+        Binary::ToFront,
+    ];
+    lengths.extend(TURNS.map(Binary::Is));
+    lengths.extend(LOOK_LIKE_TEXT.map(Binary::Is));
+    lengths.extend([1 << 31, 1 << 32, 1 << 63].map(Binary::More));
+    // What comes to the place of the object's label.
+    lengths.push(Binary::Is((LABEL as u64).wrapping_neg()));
+    lengths
+}
+
+/// Each number of spaces at both sides of an object's end, each bad field, and each version's length
+/// in the other.
+pub fn last_objects() -> Vec<LastObject> {
+    let fits = (0..FIELD).map(Field::Fits);
+    let beyond = (0..FIELD).map(Field::Beyond);
+    let of_other = [Version::One, Version::Two].map(Field::OfOther);
+    let bad = BAD_FIELDS.map(Field::Bad);
+    let fields = fits.chain(beyond).chain(bad).chain(of_other);
+    fields.flat_map(LastObject::with).collect()
+}
+
+/// Each binary length that is named above, in leaves and groups.
+pub fn binary_objects() -> Vec<LastObject> {
+    let fields = binaries().into_iter().map(Field::Binary);
+    fields.flat_map(LastObject::with).collect()
 }
 
 impl LastObject {
-    /// A file with this object, and the place of the object's label.
-    pub fn in_file(self, random: &mut Random) -> (LabelledFile, usize) {
+    /// A leaf and a group with this field, each at the end of a file and of a group.
+    fn with(field: Field) -> [LastObject; 4] {
+        [(false, false), (false, true), (true, false), (true, true)].map(
+            |(is_group, is_enclosed)| LastObject {
+                is_group,
+                is_enclosed,
+                field,
+            },
+        )
+    }
+
+    /// The object's own version.
+    fn version(self) -> Version {
+        match self.field {
+            Field::Binary(_) => Version::Two,
+            Field::OfOther(version) => version,
+            Field::Fits(_) | Field::Beyond(_) | Field::Bad(_) => Version::One,
+        }
+    }
+
+    /// A file with this object, among others of allowed versions, and the place of the object's
+    /// label.
+    pub fn in_file(self, versions: Versions, random: &mut Random) -> (LabelledFile, usize) {
         let leaves_before = random.pick(&[0, 0, 1, 2, 15, 16]);
         let mut objects = forest(random, leaves_before, 1, 10);
         let mut place = size_of_all(&objects);
@@ -468,8 +653,10 @@ impl LastObject {
         } else {
             objects.push(object);
         }
-        let mut file = written(&objects).pad(random);
-        file.set_field(place, &self.field_for(length));
+        let mix = Mix::allowed(versions, random);
+        let mut file = written(&objects).relabelled(mix, random);
+        file.bytes[place + VERSION] = version_byte(self.version());
+        file.set_field(place, &self.field_for(length, place + LABEL));
         (file, place)
     }
 
@@ -499,15 +686,18 @@ impl LastObject {
         match self.field {
             Field::Fits(spaces) => longest(spaces),
             Field::Beyond(spaces) => longest(spaces) - 1,
-            Field::Bad(_) => longest(4),
+            Field::Bad(_) | Field::OfOther(_) | Field::Binary(_) => longest(4),
         }
     }
 
-    fn field_for(self, length: usize) -> String {
+    fn field_for(self, length: usize, value: usize) -> Vec<u8> {
         match self.field {
-            Field::Fits(spaces) => length_field(spaces, length),
-            Field::Beyond(spaces) => length_field(spaces, length + 1),
-            Field::Bad(bad) => bad(length),
+            Field::Fits(spaces) => length_field(spaces, length).into_bytes(),
+            Field::Beyond(spaces) => length_field(spaces, length + 1).into_bytes(),
+            Field::Bad(bad) => bad(length).into_bytes(),
+            Field::OfOther(Version::One) => (length as u64).to_be_bytes().to_vec(),
+            Field::OfOther(Version::Two) => length_field(0, length).into_bytes(),
+            Field::Binary(binary) => binary.of(length, value).to_be_bytes().to_vec(),
         }
     }
 }
@@ -546,9 +736,11 @@ impl Classed {
         GROUP_CLASSES.contains(&self.class)
     }
 
-    /// A file with this object inside of groups, and the place of the object's label.
-    pub fn in_file(self, random: &mut Random) -> (LabelledFile, usize) {
-        let mut objects = vec![self.object(random)];
+    /// A file with this object inside of groups, all of allowed versions, and the place of the
+    /// object's label.
+    pub fn in_file(self, versions: Versions, random: &mut Random) -> (LabelledFile, usize) {
+        let mix = Mix::allowed(versions, random);
+        let mut objects = vec![self.object(mix, random)];
         let mut place = 0;
         for depth in (1..=self.depth).rev() {
             let leaves_before = match depth {
@@ -566,10 +758,10 @@ impl Classed {
             }
             objects = level;
         }
-        (written(&objects).pad(random), place)
+        (written(&objects).relabelled(mix, random), place)
     }
 
-    fn object(self, random: &mut Random) -> Object {
+    fn object(self, mix: Mix, random: &mut Random) -> Object {
         let inside = match (self.divides, self.depth) {
             (true, 8) => Vec::new(),
             (true, depth) => {
@@ -582,8 +774,54 @@ impl Classed {
         if self.is_group() {
             Object::Group(head, inside)
         } else {
-            Object::Leaf(head, written(&inside).bytes)
+            Object::Leaf(head, written(&inside).relabelled(mix, random).bytes)
         }
+    }
+}
+
+/// A leaf or a group of one of the versions at one of the 8 depths.
+#[derive(Clone, Copy, Debug)]
+pub struct Versioned {
+    pub version: Version,
+    pub depth: usize,
+    pub is_group: bool,
+}
+
+/// Each version at each depth, in a leaf and in a group.
+pub fn versioned() -> Vec<Versioned> {
+    let mut objects = Vec::new();
+    for version in [Version::One, Version::Two] {
+        for depth in 1..=8 {
+            objects.extend([true, false].map(|is_group| Versioned {
+                version,
+                depth,
+                is_group,
+            }));
+        }
+    }
+    objects
+}
+
+impl Versioned {
+    /// A file with this object, and the place of its label. All others are of allowed versions.
+    pub fn in_file(self, versions: Versions, random: &mut Random) -> (LabelledFile, usize) {
+        let class = if self.is_group {
+            random.pick(&GROUP_CLASSES)
+        } else {
+            leaf_class(random)
+        };
+        let classed = Classed {
+            class,
+            depth: self.depth,
+            divides: true,
+        };
+        let (mut file, place) = classed.in_file(versions, random);
+        let spot = file.spots.iter().find(|spot| spot.place == place);
+        if let Some(length) = spot.map(|spot| spot.length as u64) {
+            file.bytes[place + VERSION] = version_byte(self.version);
+            file.set_length(place, length, random);
+        }
+        (file, place)
     }
 }
 
@@ -599,6 +837,12 @@ fn indivisible(random: &mut Random) -> Vec<Object> {
     match random.between(0, 4) {
         0 => label = random.bytes(20),
         1 => label.truncate(random.between(1, 12)),
+        2 if random.chance(50) => {
+            label[VERSION] = b'2';
+            let beyond = random.pick(&TURNS);
+            let beyond = random.pick(&[length as u64 + 1, beyond]);
+            label.extend(beyond.to_be_bytes());
+        }
         2 => label.extend(length_field(1, length + 1).bytes()),
         3 => label.extend(random.pick(&BAD_FIELDS)(length).bytes()),
         _ => label.extend(b"0000000"),
@@ -629,7 +873,7 @@ fn harm(file: &mut LabelledFile, random: &mut Random) {
     }
     let spot = random.pick(&spots);
     let label = spot.place..spot.place + LABEL;
-    match random.between(0, 13) {
+    match random.between(0, 16) {
         0..=2 => {
             let position = random.between(0, LABEL - 1);
             harm_byte(&mut file.bytes[label], position, random);
@@ -649,7 +893,8 @@ fn harm(file: &mut LabelledFile, random: &mut Random) {
                 9_999_999,
                 99_999_999,
             ]);
-            file.set_length(spot.place, length, random);
+            file.set_length(spot.place, length as u64, random);
+            harm_binary(file, spot, 40, random);
         }
         6 | 7 => {
             let length = file.bytes.len();
@@ -668,6 +913,12 @@ fn harm(file: &mut LabelledFile, random: &mut Random) {
         }
         9 | 10 => harm_spaces(file, spot, random),
         11 | 12 => file.bytes[spot.place + 5] = any_class(random),
+        13 => {
+            // The other version, with the length as it stands, or none.
+            let other = random.pick(b"1122\x01\x02\0\x0303");
+            file.bytes[spot.place + VERSION] = other;
+        }
+        14 | 15 => harm_binary(file, spot, 100, random),
         _ => {
             let place = random.between(0, file.bytes.len() - 1);
             if random.chance(50) {
@@ -701,8 +952,19 @@ fn harm_spaces(file: &mut LabelledFile, spot: Spot, random: &mut Random) {
         2 => file.bytes.insert(field, b' '),
         _ => {
             let bad = random.pick(&BAD_FIELDS);
-            file.set_field(spot.place, &bad(spot.length.min(longest(4))));
+            let field = bad(spot.length.min(longest(4)));
+            file.set_field(spot.place, field.as_bytes());
         }
+    }
+}
+
+/// Gives a label of version 2, in so many of a hundred cases, a length that narrow numbers take for
+/// another.
+fn harm_binary(file: &mut LabelledFile, spot: Spot, percent: u64, random: &mut Random) {
+    if file.version_at(spot.place) == Version::Two && random.chance(percent) {
+        let binary = random.pick(&binaries());
+        let length = binary.of(spot.length, spot.place + LABEL);
+        file.set_field(spot.place, &length.to_be_bytes());
     }
 }
 
@@ -710,11 +972,12 @@ fn harm_spaces(file: &mut LabelledFile, spot: Spot, random: &mut Random) {
 /// jump tells these apart. Gives the place of the group, if there is one.
 pub fn harm_group_length(file: &mut LabelledFile, random: &mut Random) -> Option<usize> {
     let groups = file.spots.iter().filter(|spot| spot.is_group);
-    let groups: Vec<usize> = groups.map(|spot| spot.place).collect();
+    let groups: Vec<Spot> = groups.copied().collect();
     if groups.is_empty() {
         return None;
     }
-    let place = random.pick(&groups);
+    let group = random.pick(&groups);
+    let place = group.place;
     let to_file_end = file.bytes.len().checked_sub(place + LABEL)?;
     match random.between(0, 9) {
         0..=2 => {
@@ -723,11 +986,12 @@ pub fn harm_group_length(file: &mut LabelledFile, random: &mut Random) -> Option
         }
         3 | 4 => {
             let bad = random.pick(&BAD_FIELDS);
-            file.set_field(place, &bad(0));
+            file.set_field(place, bad(0).as_bytes());
         }
         _ => {
             let length = random.pick(&[to_file_end + 1, 9_999_999, 99_999_999, 0]);
-            file.set_length(place, length, random);
+            file.set_length(place, length as u64, random);
+            harm_binary(file, group, 70, random);
         }
     }
     Some(place)
@@ -739,7 +1003,7 @@ pub fn stretch_leaf(file: &mut LabelledFile, row: usize, random: &mut Random) ->
     let leaf = file.leaves().get(row).copied()?;
     let to_file_end = file.bytes.len().checked_sub(leaf.place + LABEL)?;
     let length = to_file_end + random.pick(&[0, 1, 1, 20]);
-    file.set_length(leaf.place, length, random);
+    file.set_length(leaf.place, length as u64, random);
     Some(leaf.place)
 }
 
@@ -765,8 +1029,25 @@ pub fn waveform(random: &mut Random) -> Vec<u8> {
 #[cfg(test)]
 mod tests {
     use super::*;
+    use independent::label;
     use independent::labelled::{check, leaves};
     use independent::refusal::Reason;
+
+    /// Each object with each choice, so many times.
+    fn told<T: Copy>(objects: Vec<T>, times: usize) -> impl Iterator<Item = (T, Versions)> {
+        let choices = |object| [(object, Versions::One), (object, Versions::OneAndTwo)];
+        objects.repeat(times).into_iter().flat_map(choices)
+    }
+
+    /// The choice in the words of the second implementation.
+    fn taken(versions: Versions) -> label::Versions {
+        match versions {
+            Versions::One => label::Versions::First,
+            Versions::OneAndTwo => label::Versions::Both,
+        }
+    }
+
+    const BOTH: label::Versions = label::Versions::Both;
 
     #[test]
     fn spots_are_where_the_labels_are() {
@@ -774,13 +1055,13 @@ mod tests {
         let mut refused = 0;
         for _ in 0..1_000 {
             let file = labelled(&mut random);
-            let Ok(rows) = check(&file.bytes) else {
+            let Ok(rows) = check(BOTH, &file.bytes) else {
                 refused += 1;
                 continue;
             };
             let spots = file.leaves();
             assert_eq!(rows, spots.len() as u64);
-            for (spot, leaf) in spots.iter().zip(leaves(&file.bytes).unwrap()) {
+            for (spot, leaf) in spots.iter().zip(leaves(BOTH, &file.bytes).unwrap()) {
                 let leaf = leaf.unwrap();
                 assert_eq!(spot.place as u64, leaf.place);
                 assert_eq!(spot.length as u64, leaf.row.length);
@@ -806,7 +1087,7 @@ mod tests {
         let (mut none, mut mixed, mut all) = (0, 0, 0);
         let mut seen = [[0; FIELD]; 2];
         for _ in 0..1_000 {
-            let paddings = paddings(&labelled(&mut random));
+            let paddings = paddings(&labelled_with(Mix::None, &mut random));
             if paddings.len() < 2 {
                 continue;
             }
@@ -829,7 +1110,7 @@ mod tests {
     fn a_padded_file_is_taken_over_too() {
         let mut random = Random::new(14);
         for _ in 0..100 {
-            let header = known(published::volume_header()).pad(&mut random);
+            let header = known(published::volume_header()).relabelled(Mix::None, &mut random);
             let again = known(header.bytes.clone());
             for (spot, other) in header.spots.iter().zip(&again.spots) {
                 assert_eq!((spot.place, spot.length), (other.place, other.length));
@@ -841,26 +1122,37 @@ mod tests {
     #[test]
     fn last_objects_fit_or_are_at_fault() {
         let mut random = Random::new(15);
-        for object in last_objects().repeat(20) {
-            let (file, place) = object.in_file(&mut random);
+        for (object, versions) in told([last_objects(), binary_objects()].concat(), 20) {
+            let (file, place) = object.in_file(versions, &mut random);
+            let spot = file.spots.iter().find(|spot| spot.place == place).unwrap();
             let rows = file.leaves().len() as u64;
+            let fits = |length: u64| match length <= spot.length as u64 {
+                true => Ok(rows),
+                false => Err(Reason::Overrun.at(place as u64)),
+            };
             let expected = match object.field {
+                _ if versions == Versions::One && object.version() == Version::Two => {
+                    Err(Reason::BadLabel.at(place as u64))
+                }
                 Field::Fits(_) => Ok(rows),
                 Field::Beyond(_) => Err(Reason::Overrun.at(place as u64)),
                 Field::Bad(_) => Err(Reason::BadLength.at(place as u64)),
+                Field::OfOther(Version::One) => Err(Reason::BadLength.at(place as u64)),
+                Field::OfOther(Version::Two) => Err(Reason::Overrun.at(place as u64)),
+                Field::Binary(binary) => fits(binary.of(spot.length, place + LABEL)),
             };
-            assert_eq!(check(&file.bytes), expected, "{object:?}");
+            assert_eq!(check(taken(versions), &file.bytes), expected, "{object:?}");
         }
     }
 
     #[test]
     fn objects_of_each_class_divide_or_are_at_fault() {
         let mut random = Random::new(18);
-        for object in classed().repeat(20) {
-            let (file, place) = object.in_file(&mut random);
+        for (object, versions) in told(classed(), 10) {
+            let (file, place) = object.in_file(versions, &mut random);
             let rows = file.leaves().len() as u64;
             let is_good = object.divides || !object.is_group();
-            match check(&file.bytes) {
+            match check(taken(versions), &file.bytes) {
                 Ok(found) => assert!(is_good && found == rows, "{object:?}"),
                 Err(refusal) => {
                     let spot = file.spots.iter().find(|spot| spot.place == place);
@@ -870,6 +1162,48 @@ mod tests {
                 }
             }
         }
+    }
+
+    #[test]
+    fn objects_of_each_version_are_accepted_where_they_are_allowed() {
+        let mut random = Random::new(22);
+        for (object, versions) in told(versioned(), 20) {
+            let (file, place) = object.in_file(versions, &mut random);
+            let expected = match (versions, object.version) {
+                (Versions::One, Version::Two) => Err(Reason::BadLabel.at(place as u64)),
+                _ => Ok(file.leaves().len() as u64),
+            };
+            assert_eq!(check(taken(versions), &file.bytes), expected, "{object:?}");
+        }
+    }
+
+    #[test]
+    fn most_files_with_version_2_have_version_1_too() {
+        let mut random = Random::new(23);
+        let (mut none, mut mixed, mut all, mut late) = (0, 0, 0, 0);
+        for _ in 0..1_000 {
+            let file = labelled(&mut random);
+            let versions: Vec<Version> = file
+                .spots
+                .iter()
+                .map(|s| file.version_at(s.place))
+                .collect();
+            if versions.len() < 2 {
+                continue;
+            }
+            match versions.iter().position(|&version| version == Version::Two) {
+                None => none += 1,
+                Some(_) if !versions.contains(&Version::One) => all += 1,
+                Some(first) => {
+                    mixed += 1;
+                    late += u32::from(first > 15);
+                }
+            }
+        }
+        assert!(
+            mixed > 400 && none > 150 && all > 50 && late > 15,
+            "{none} {mixed} {all} {late}"
+        );
     }
 
     #[test]

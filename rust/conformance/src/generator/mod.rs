@@ -7,8 +7,8 @@ pub mod published;
 pub mod random;
 
 use crate::Case;
-use crestulbino::{Kind, Window};
-use files::{Classed, LabelledFile, LastObject, RECORD};
+use crestulbino::{Kind, Version, Versions, Window};
+use files::{Classed, LabelledFile, LastObject, Versioned, RECORD};
 use independent::altimeter::TABLE;
 use independent::waveform::{PREFIX_BYTES, SAMPLE_BYTES};
 use random::{Deck, Random};
@@ -20,11 +20,15 @@ const SAMPLES: usize = SAMPLE_BYTES as usize;
 /// one matters are dealt from decks, so that a long stream holds all of them.
 pub struct Generator {
     random: Random,
-    label_harms: Deck<(usize, u8)>,
+    label_harms: Deck<(Version, usize, u8)>,
     field_patterns: Deck<u8>,
+    binary_lengths: Deck<(u64, Versions)>,
     last_objects: Deck<(CallAt, LastObject)>,
+    binary_objects: Deck<(Option<CallAt>, LastObject)>,
     classed: Deck<Classed>,
+    versioned: Deck<(Versioned, Versions)>,
     head_harms: Deck<(usize, u8)>,
+    written: Deck<Written>,
     samples: Deck<u8>,
     vax_numbers: Deck<VaxNumber>,
     limit_values: Deck<(u64, i64)>,
@@ -48,39 +52,56 @@ enum Fraction {
     Any,
 }
 
+/// What a label is to be written of.
+#[derive(Clone, Copy)]
+struct Written {
+    version: Version,
+    /// The version that the type bytes say.
+    said: Version,
+    length: usize,
+    room: usize,
+}
+
 type Call = fn(&mut Generator) -> Case;
 
 /// How often each call is asked.
-const CALLS: [(u64, Call); 21] = [
-    (14, Generator::read_label),
-    (8, Generator::write_label),
-    (9, Generator::check_labelled),
-    (2, Generator::check_waveform),
-    (13, Generator::read_row_labelled),
-    (4, Generator::read_row_waveform),
-    (18, Generator::jump_labelled),
-    (4, Generator::jump_waveform),
-    (10, Generator::row_from_labelled),
-    (5, Generator::row_from_waveform),
-    (8, Generator::build_index),
-    (8, Generator::check_index),
-    (14, Generator::last_object),
-    (12, Generator::classed),
-    (4, Generator::keep_index),
-    (7, Generator::load_kept),
-    (7, Generator::sample),
-    (5, Generator::vax_f),
-    (6, Generator::vax_d),
-    (6, Generator::opening),
-    (30, Generator::verdict),
+const CALLS: [(u64, Call); 23] = [
+    (100, Generator::read_label),
+    (50, Generator::write_label),
+    (38, Generator::check_labelled),
+    (9, Generator::check_waveform),
+    (53, Generator::read_row_labelled),
+    (18, Generator::read_row_waveform),
+    (74, Generator::jump_labelled),
+    (18, Generator::jump_waveform),
+    (44, Generator::row_from_labelled),
+    (22, Generator::row_from_waveform),
+    (33, Generator::build_index),
+    (33, Generator::check_index),
+    (74, Generator::last_object),
+    (75, Generator::binary_object),
+    (51, Generator::classed),
+    (11, Generator::versioned),
+    (16, Generator::keep_index),
+    (26, Generator::load_kept),
+    (34, Generator::sample),
+    (18, Generator::vax_f),
+    (22, Generator::vax_d),
+    (23, Generator::opening),
+    (110, Generator::verdict),
 ];
 
+const CHOICES: [Versions; 2] = [Versions::One, Versions::OneAndTwo];
+
 /// A call on a file, above all on the object at a place of it.
-type CallAt = fn(&mut Generator, LabelledFile, usize) -> Case;
+type CallAt = fn(&mut Generator, LabelledFile, usize, Versions) -> Case;
 
 /// The calls that go through a labelled file.
 const CALLS_AT: [CallAt; 6] = [
-    |_, file, _| Case::CheckLabelled { file: file.bytes },
+    |_, file, _, versions| Case::CheckLabelled {
+        file: file.bytes,
+        versions,
+    },
     Generator::read_row_at,
     Generator::jump_at,
     Generator::row_from_at,
@@ -115,11 +136,15 @@ impl Generator {
     pub fn new(seed: u64) -> Self {
         Generator {
             random: Random::new(seed),
-            label_harms: Deck::new(label_harms(20)),
+            label_harms: Deck::new(label_harms()),
             field_patterns: Deck::new((0..=255).collect()),
+            binary_lengths: Deck::new(told_each(&binary_lengths())),
             last_objects: Deck::new(last_objects()),
+            binary_objects: Deck::new(binary_objects()),
             classed: Deck::new(files::classed()),
-            head_harms: Deck::new(label_harms(12)),
+            versioned: Deck::new(told_each(&files::versioned())),
+            head_harms: Deck::new(odd_bytes(12)),
+            written: Deck::new(written()),
             samples: Deck::new((0..=255).collect()),
             vax_numbers: Deck::new(vax_numbers()),
             limit_values: Deck::new(limit_values()),
@@ -138,18 +163,32 @@ impl Generator {
     }
 
     fn read_label(&mut self) -> Case {
-        let bytes = if self.random.chance(45) {
-            self.label_of_spaces_and_digits()
-        } else {
-            self.harmed_label()
-        };
-        Case::ReadLabel { bytes }
+        match self.random.between(0, 99) {
+            0..=32 => {
+                let pattern = self.field_patterns.deal(&mut self.random);
+                let bytes = self.label_of_spaces_and_digits(Version::One, pattern);
+                let versions = self.random.pick(&CHOICES);
+                Case::ReadLabel { bytes, versions }
+            }
+            33..=35 => {
+                let pattern = self.random.byte();
+                let bytes = self.label_of_spaces_and_digits(Version::Two, pattern);
+                let versions = self.random.pick(&CHOICES);
+                Case::ReadLabel { bytes, versions }
+            }
+            36..=47 => {
+                let (length, versions) = self.binary_lengths.deal(&mut self.random);
+                let mut bytes = self.head(Version::Two).to_vec();
+                bytes.extend(length.to_be_bytes());
+                Case::ReadLabel { bytes, versions }
+            }
+            _ => self.read_harmed_label(),
+        }
     }
 
     /// A label whose length field is of spaces, where its pattern has ones, and of digits.
-    fn label_of_spaces_and_digits(&mut self) -> Vec<u8> {
-        let mut bytes = self.head().to_vec();
-        let pattern = self.field_patterns.deal(&mut self.random);
+    fn label_of_spaces_and_digits(&mut self, version: Version, pattern: u8) -> Vec<u8> {
+        let mut bytes = self.head(version).to_vec();
         bytes.extend((0..8).map(|bit| match (pattern >> bit) & 1 {
             1 => b' ',
             _ => self.random.pick(b"0123456789"),
@@ -159,18 +198,17 @@ impl Generator {
 
     /// A label, mostly with a byte or two at the edges of what is allowed, at times cut off or with
     /// more behind it.
-    fn harmed_label(&mut self) -> Vec<u8> {
-        let mut bytes = self.head().to_vec();
-        let length = self.random.below(100_000_000) as usize;
-        let length = self.random.pick(&[0, 3, 99_999_999, length]);
-        let spaces = if self.random.chance(50) {
-            self.random.between(0, files::most_spaces(length))
-        } else {
-            0
-        };
-        bytes.extend(files::length_field(spaces, length).bytes());
-        for _ in 0..self.random.weighted(&[(25, 0), (60, 1), (15, 2)]) {
-            let (position, byte) = self.label_harms.deal(&mut self.random);
+    fn read_harmed_label(&mut self) -> Case {
+        let (version, position, byte) = self.label_harms.deal(&mut self.random);
+        let mut bytes = self.head(version).to_vec();
+        bytes.extend(self.field(version));
+        let mut harms = vec![(position, byte)];
+        match self.random.between(0, 99) {
+            0..=9 => harms.clear(),
+            10..=19 => harms.push(self.random.pick(&odd_bytes(20))),
+            _ => {}
+        }
+        for (position, byte) in harms {
             bytes[position] = byte;
         }
         match self.random.between(0, 9) {
@@ -181,41 +219,60 @@ impl Generator {
             }
             _ => {}
         }
-        bytes
+        let versions = match version {
+            Version::One => self.random.pick(&CHOICES),
+            Version::Two => Versions::OneAndTwo,
+        };
+        Case::ReadLabel { bytes, versions }
+    }
+
+    /// A length field of a label of this version.
+    fn field(&mut self, version: Version) -> Vec<u8> {
+        let length = self.random.below(100_000_000);
+        let length = self.random.pick(&[0, 3, 99_999_999, length]);
+        if version == Version::Two {
+            let large = self.random.pick(&files::TURNS);
+            let any = self.random.draw();
+            let length = self.random.pick(&[length, large, any]);
+            return length.to_be_bytes().to_vec();
+        }
+        let length = length as usize;
+        let spaces = if self.random.chance(50) {
+            self.random.between(0, files::most_spaces(length))
+        } else {
+            0
+        };
+        files::length_field(spaces, length).into_bytes()
     }
 
     fn write_label(&mut self) -> Case {
-        let mut head = self.head().to_vec();
+        if self.random.chance(50) {
+            let written = self.written.deal(&mut self.random);
+            return Case::WriteLabel {
+                version: written.version,
+                head: self.head(written.said).to_vec(),
+                length: written.length,
+                buffer: self.random.bytes(written.room),
+            };
+        }
+        let version = self.random.pick(&[Version::One, Version::Two]);
+        let mut head = self.head(version).to_vec();
         match self.random.between(0, 9) {
             0 => head.truncate(11),
             1 => head.push(self.random.pick(b"0A")),
             2 => head.clear(),
-            3..=6 => {
+            3..=9 => {
                 let (position, byte) = self.head_harms.deal(&mut self.random);
                 head[position] = byte;
             }
             _ => {}
         }
         let any = self.random.between(0, 99_999_999);
-        let length = self.random.pick(&[
-            0,
-            1,
-            9,
-            10,
-            any,
-            9_999_999,
-            10_000_000,
-            99_999_998,
-            99_999_999,
-            99_999_999,
-            100_000_000,
-            100_000_000,
-            100_000_001,
-            1 << 32,
-            usize::MAX,
-        ]);
+        let length = self.random.pick(&WRITTEN_LENGTHS);
+        let length = self.random.pick(&[any, 9, 10, 10_000_000, length, length]);
         let buffer = edges::buffer(&mut self.random, 20);
         Case::WriteLabel {
+            version,
             head,
             length,
             buffer,
@@ -223,8 +280,12 @@ impl Generator {
     }
 
     fn check_labelled(&mut self) -> Case {
-        let file = self.labelled_file(65).bytes;
-        Case::CheckLabelled { file }
+        let file = self.labelled_file(65);
+        let versions = self.told_of(&file);
+        Case::CheckLabelled {
+            file: file.bytes,
+            versions,
+        }
     }
 
     fn check_waveform(&mut self) -> Case {
@@ -235,10 +296,12 @@ impl Generator {
     fn read_row_labelled(&mut self) -> Case {
         let file = self.labelled_file(25);
         let (row, window) = self.labelled_row(&file);
+        let versions = self.told_of(&file);
         Case::ReadRowLabelled {
             file: file.bytes,
             row,
             window,
+            versions,
         }
     }
 
@@ -256,11 +319,13 @@ impl Generator {
             1 => files::stretch_leaf(&mut file, row, &mut self.random),
             _ => None,
         };
+        let versions = self.told_of(&file);
         Case::JumpLabelled {
             file: file.bytes,
             list,
             row,
             window,
+            versions,
         }
     }
 
@@ -285,7 +350,7 @@ impl Generator {
         };
         let from = edges::place(&mut self.random, &places, file.bytes.len());
         Case::RowFrom {
-            kind: Kind::Labelled,
+            kind: Kind::Labelled(self.told_of(&file)),
             file: file.bytes,
             from,
         }
@@ -303,52 +368,79 @@ impl Generator {
     }
 
     fn build_index(&mut self) -> Case {
-        let file = self.labelled_file(25);
+        let file = self.labelled_file(35);
         let list = edges::list(&mut self.random, file.index().len());
+        let versions = self.told_of(&file);
         Case::BuildIndex {
             file: file.bytes,
             list,
+            versions,
         }
     }
 
     fn check_index(&mut self) -> Case {
-        let file = self.labelled_file(20);
+        let file = self.labelled_file(30);
         let mut list = file.index();
         if self.random.chance(60) {
             self.wrong_list(&mut list, &file);
         }
+        let versions = self.told_of(&file);
         Case::CheckIndex {
             file: file.bytes,
             list,
+            versions,
         }
     }
 
     /// A file whose edge is an object's end or length field, and a call that goes through it.
     fn last_object(&mut self) -> Case {
         let (call, object) = self.last_objects.deal(&mut self.random);
-        let (file, place) = object.in_file(&mut self.random);
-        call(self, file, place)
+        let versions = self.random.pick(&CHOICES);
+        let (file, place) = object.in_file(versions, &mut self.random);
+        call(self, file, place, versions)
+    }
+
+    /// A file with an object of version 2 whose length is an edge, and a call that goes through it.
+    fn binary_object(&mut self) -> Case {
+        let (call, object) = self.binary_objects.deal(&mut self.random);
+        let versions = match call {
+            Some(_) => Versions::OneAndTwo,
+            None => Versions::One,
+        };
+        let call = call.unwrap_or_else(|| self.random.pick(&CALLS_AT));
+        let (file, place) = object.in_file(versions, &mut self.random);
+        call(self, file, place, versions)
     }
 
     /// A file with an object of some class at some depth, and a call that goes through it.
     fn classed(&mut self) -> Case {
         let object = self.classed.deal(&mut self.random);
-        let (file, place) = object.in_file(&mut self.random);
+        let versions = self.random.pick(&CHOICES);
+        let (file, place) = object.in_file(versions, &mut self.random);
         let call = self.random.pick(&CALLS_AT);
-        call(self, file, place)
+        call(self, file, place, versions)
     }
 
-    fn read_row_at(&mut self, file: LabelledFile, place: usize) -> Case {
+    /// A file with a label of some version at some depth, and a call that goes through it.
+    fn versioned(&mut self) -> Case {
+        let (object, versions) = self.versioned.deal(&mut self.random);
+        let (file, place) = object.in_file(versions, &mut self.random);
+        let call = self.random.pick(&CALLS_AT);
+        call(self, file, place, versions)
+    }
+
+    fn read_row_at(&mut self, file: LabelledFile, place: usize, versions: Versions) -> Case {
         let (row, window) = self.row_at(&file, place);
         Case::ReadRowLabelled {
             file: file.bytes,
             row,
             window,
+            versions,
         }
     }
 
     /// A jump that mostly meets the object, with the file's index or from the object itself.
-    fn jump_at(&mut self, file: LabelledFile, place: usize) -> Case {
+    fn jump_at(&mut self, file: LabelledFile, place: usize, versions: Versions) -> Case {
         let (mut row, window) = self.row_at(&file, place);
         let mut list = file.index();
         if self.random.chance(30) {
@@ -362,31 +454,33 @@ impl Generator {
             list,
             row,
             window,
+            versions,
         }
     }
 
-    fn row_from_at(&mut self, file: LabelledFile, place: usize) -> Case {
+    fn row_from_at(&mut self, file: LabelledFile, place: usize, versions: Versions) -> Case {
         let from = if self.random.chance(70) {
             place
         } else {
             edges::place(&mut self.random, &file.places(), file.bytes.len())
         };
         Case::RowFrom {
-            kind: Kind::Labelled,
+            kind: Kind::Labelled(versions),
             file: file.bytes,
             from,
         }
     }
 
-    fn build_index_at(&mut self, file: LabelledFile, _: usize) -> Case {
+    fn build_index_at(&mut self, file: LabelledFile, _: usize, versions: Versions) -> Case {
         let list = vec![7; file.index().len() + 1];
         Case::BuildIndex {
             file: file.bytes,
             list,
+            versions,
         }
     }
 
-    fn check_index_at(&mut self, file: LabelledFile, _: usize) -> Case {
+    fn check_index_at(&mut self, file: LabelledFile, _: usize, versions: Versions) -> Case {
         let list = if self.random.chance(20) {
             file.old_index()
         } else {
@@ -395,6 +489,7 @@ impl Generator {
         Case::CheckIndex {
             file: file.bytes,
             list,
+            versions,
         }
     }
 
@@ -472,9 +567,9 @@ impl Generator {
         let any = random.draw() as i64;
         let any = any >> random.between(0, 63);
         let (element, value) = match random.between(0, 9) {
-            0..=6 => self.limit_values.deal(random),
-            7 => (random.pick(&TABLE).element, extreme),
-            8 => (random.pick(&TABLE).element, any),
+            0..=5 => self.limit_values.deal(random),
+            6 => (random.pick(&TABLE).element, extreme),
+            7 => (random.pick(&TABLE).element, any),
             _ => {
                 let value = random.pick(&[extreme, any]);
                 (self.unknown_elements.deal(random), value)
@@ -483,13 +578,22 @@ impl Generator {
         Case::Verdict { element, value }
     }
 
-    /// The type bytes of a label of any class.
-    fn head(&mut self) -> [u8; 12] {
-        if self.random.chance(25) {
-            return files::group_head(&mut self.random);
-        }
-        let class = files::leaf_class(&mut self.random);
-        files::head(&mut self.random, class)
+    /// The type bytes of a label of this version and of any class.
+    fn head(&mut self, version: Version) -> [u8; 12] {
+        let mut head = if self.random.chance(25) {
+            files::group_head(&mut self.random)
+        } else {
+            let class = files::leaf_class(&mut self.random);
+            files::head(&mut self.random, class)
+        };
+        head[4] = files::version_byte(version);
+        head
+    }
+
+    /// What a call is told of a file: mostly what allows its labels.
+    fn told_of(&mut self, file: &LabelledFile) -> Versions {
+        let both_percent = if file.has_version_2() { 75 } else { 45 };
+        CHOICES[usize::from(self.random.chance(both_percent))]
     }
 
     /// A labelled file, damaged in so many of a hundred cases.
@@ -665,8 +769,35 @@ impl Generator {
     }
 }
 
-/// Each byte of the front of a label with each value at its edges.
-fn label_harms(positions: usize) -> Vec<(usize, u8)> {
+/// Each object with each choice.
+fn told_each<T: Copy>(objects: &[T]) -> Vec<(T, Versions)> {
+    let told = |&object: &T| CHOICES.map(|versions| (object, versions));
+    objects.iter().flat_map(told).collect()
+}
+
+/// Each byte of a label with each value at its edges; of a label of version 2, in which any length
+/// is good, each type byte.
+fn label_harms() -> Vec<(Version, usize, u8)> {
+    let of = |version, positions| {
+        let harms = odd_bytes(positions).into_iter();
+        harms.map(move |(position, byte)| (version, position, byte))
+    };
+    of(Version::One, 20).chain(of(Version::Two, 12)).collect()
+}
+
+/// Lengths of version 2: edges of narrow numbers, each byte alone, and what looks like text.
+fn binary_lengths() -> Vec<u64> {
+    let bytes = (0..8).flat_map(|at| [1, 0x80, 0xff].map(|byte| byte << (8 * at)));
+    let small = [0, 3, 99_999_999, 100_000_000, 0x0102_0304_0506_0708];
+    let named = files::TURNS.into_iter().chain(files::LOOK_LIKE_TEXT);
+    let mut lengths: Vec<u64> = bytes.chain(small).chain(named).collect();
+    lengths.sort();
+    lengths.dedup();
+    lengths
+}
+
+/// Each of the first bytes of a label with each value at its edges.
+fn odd_bytes(positions: usize) -> Vec<(usize, u8)> {
     (0..positions)
         .flat_map(|position| {
             files::odd_bytes(position)
@@ -681,6 +812,54 @@ fn last_objects() -> Vec<(CallAt, LastObject)> {
     let objects = files::last_objects().into_iter();
     let calls = |object: LastObject| CALLS_AT.map(|call| (call, object));
     objects.flat_map(calls).collect()
+}
+
+/// Each last object with a binary length, with each call that goes through it and, for version 1
+/// only, with some call.
+fn binary_objects() -> Vec<(Option<CallAt>, LastObject)> {
+    let objects = files::binary_objects().into_iter();
+    let calls = |object: LastObject| {
+        let calls = CALLS_AT.map(Some).into_iter().chain([None]);
+        calls.map(move |call| (call, object))
+    };
+    objects.flat_map(calls).collect()
+}
+
+const WRITTEN_LENGTHS: [usize; 14] = [
+    0,
+    1,
+    3,
+    99_999_998,
+    99_999_999,
+    100_000_000,
+    100_000_001,
+    1 << 31,
+    (1 << 32) - 1,
+    1 << 32,
+    (1 << 32) + 1,
+    (1 << 63) - 1,
+    1 << 63,
+    usize::MAX,
+];
+
+/// Each version in type bytes of each, with lengths and rooms at their edges.
+fn written() -> Vec<Written> {
+    let versions = [Version::One, Version::Two];
+    let mut labels = Vec::new();
+    for (version, said) in versions
+        .into_iter()
+        .flat_map(|one| versions.map(|other| (one, other)))
+    {
+        for length in WRITTEN_LENGTHS {
+            labels.extend([19, 20, 21].map(|room| Written {
+                version,
+                said,
+                length,
+                room,
+            }));
+        }
+    }
+    labels
 }
 
 fn vax_numbers() -> Vec<VaxNumber> {
@@ -734,14 +913,19 @@ mod tests {
     use super::*;
     use crate::answer_line;
     use crate::library::INDEPENDENT;
-    use std::collections::HashMap;
+    use independent::label::{self, Label};
+    use std::collections::{HashMap, HashSet};
 
-    /// The call of a line, with its kind where that is an argument.
+    /// The call of a line, with its kind or version where that is an argument.
     fn called(line: &str) -> String {
-        let mut words = line.split(' ');
-        match (words.next(), words.next()) {
-            (Some("row_from"), Some(kind)) => format!("row_from {kind}"),
-            (call, _) => call.unwrap_or_default().to_string(),
+        let words: Vec<&str> = line.split(' ').collect();
+        match words[..] {
+            [call @ ("row_from" | "write_label"), told, ..]
+            | [call @ ("read_label" | "build_index" | "check_index"), .., told] => {
+                format!("{call} {told}")
+            }
+            [call, .., told] if call.ends_with("_labelled") => format!("{call} {told}"),
+            _ => words[0].to_string(),
         }
     }
 
@@ -779,9 +963,13 @@ mod tests {
             assert_eq!(generator.by_ref().take(10_000).count(), 10_000);
             assert!(generator.label_harms.is_through());
             assert!(generator.field_patterns.is_through());
+            assert!(generator.binary_lengths.is_through());
             assert!(generator.last_objects.is_through());
+            assert!(generator.binary_objects.is_through());
             assert!(generator.classed.is_through());
+            assert!(generator.versioned.is_through());
             assert!(generator.head_harms.is_through());
+            assert!(generator.written.is_through());
             assert!(generator.samples.is_through());
             assert!(generator.vax_numbers.is_through());
             assert!(generator.limit_values.is_through());
@@ -795,7 +983,7 @@ mod tests {
     #[test]
     fn every_refusal_of_every_call_comes_up() {
         let mut seen: HashMap<(String, String), u32> = HashMap::new();
-        for line in Generator::new(5).take(12_000) {
+        for line in Generator::new(5).take(20_000) {
             let answer = answer_line(&INDEPENDENT, line.as_bytes());
             let call = called(&line);
             let mut words = answer.split(' ');
@@ -805,22 +993,28 @@ mod tests {
             };
             *seen.entry((call, kind)).or_default() += 1;
         }
-        let expected: [(&str, &[&str]); 19] = [
-            ("read_label", &["ok", "1", "2", "3"]),
-            ("write_label", &["ok", "2", "15", "8"]),
-            ("check_labelled", &["ok", "1", "2", "3", "4", "5"]),
-            ("check_waveform", &["ok", "12"]),
+        let labelled: [(&str, &[&str]); 7] = [
+            ("read_label ", &["ok", "1", "2", "3"]),
+            ("check_labelled ", &["ok", "1", "2", "3", "4", "5"]),
             (
-                "read_row_labelled",
+                "read_row_labelled ",
                 &["ok", "1", "2", "3", "4", "5", "6", "7"],
             ),
+            (
+                "jump_labelled ",
+                &["ok", "6", "11", "1", "2", "3", "4", "7"],
+            ),
+            ("row_from labelled", &["ok", "6", "1", "2", "3", "4"]),
+            ("build_index ", &["ok", "1", "2", "3", "4", "5", "8"]),
+            ("check_index ", &["ok", "1", "2", "3", "4", "5", "11"]),
+        ];
+        let others: [(&str, &[&str]); 13] = [
+            ("write_label 1", &["ok", "2", "15", "8"]),
+            ("write_label 2", &["ok", "2", "8"]),
+            ("check_waveform", &["ok", "12"]),
             ("read_row_waveform", &["ok", "12", "6", "7"]),
-            ("jump_labelled", &["ok", "6", "11", "1", "2", "3", "4", "7"]),
             ("jump_waveform", &["ok", "12", "6", "7"]),
-            ("row_from labelled1", &["ok", "6", "1", "2", "3", "4"]),
             ("row_from waveform", &["ok", "12", "6"]),
-            ("build_index", &["ok", "1", "2", "3", "4", "5", "8"]),
-            ("check_index", &["ok", "1", "2", "3", "4", "5", "11"]),
             ("keep_index", &["ok", "8"]),
             ("load_kept", &["ok", "13", "8"]),
             ("sample", &["ok"]),
@@ -829,14 +1023,89 @@ mod tests {
             ("opening", &["ok", "1", "9"]),
             ("verdict", &["ok", "10"]),
         ];
-        for (call, kinds) in expected {
+        let told = labelled
+            .iter()
+            .flat_map(|(call, kinds)| [1, 2].map(|versions| (format!("{call}{versions}"), *kinds)));
+        let others = others.map(|(call, kinds)| (call.to_string(), kinds));
+        for (call, kinds) in told.chain(others) {
             for kind in kinds {
-                let key = (call.to_string(), kind.to_string());
+                let key = (call.clone(), kind.to_string());
                 let count = seen.remove(&key).unwrap_or(0);
                 assert!(count >= 5, "{call} gave {kind} only {count} times");
             }
         }
         // What is left can only be lines that are no cases.
         assert!(seen.keys().all(|(_, kind)| kind == "bad"), "{seen:?}");
+    }
+
+    /// The labelled file of a case, and what the call is told of it.
+    fn labelled_file_of(case: Case) -> Option<(Vec<u8>, Versions)> {
+        match case {
+            Case::CheckLabelled { file, versions }
+            | Case::ReadRowLabelled { file, versions, .. }
+            | Case::JumpLabelled { file, versions, .. }
+            | Case::BuildIndex { file, versions, .. }
+            | Case::CheckIndex { file, versions, .. }
+            | Case::RowFrom {
+                kind: Kind::Labelled(versions),
+                file,
+                ..
+            } => Some((file, versions)),
+            _ => None,
+        }
+    }
+
+    /// Passes a label and what follows it up to `end` to `meet`, an object's inside before what
+    /// follows it, until that or a fault ends it.
+    fn meet_labels(
+        file: &[u8],
+        (mut place, end): (usize, usize),
+        depth: usize,
+        meet: &mut dyn FnMut(usize, Label) -> bool,
+    ) -> Option<()> {
+        while place < end {
+            let label = label::read(label::Versions::Both, &file[place..end]).ok()?;
+            meet(depth, label).then_some(())?;
+            let value = place + 20;
+            let length = usize::try_from(label.length).ok()?;
+            let value_end = value.checked_add(length).filter(|&place| place <= end)?;
+            if label.is_group() {
+                meet_labels(file, (value, value_end), depth + 1, meet)?;
+            }
+            place = value_end;
+        }
+        Some(())
+    }
+
+    /// Labels up to the first one that is not allowed, that one too.
+    #[test]
+    fn ten_thousand_cases_hold_each_version_everywhere_and_each_length() {
+        for seed in 0..3 {
+            let (mut places, mut lengths) = (HashSet::new(), HashSet::new());
+            for line in Generator::new(seed).take(10_000) {
+                let case = Case::parse(line.as_bytes());
+                let Some((file, versions)) = case.and_then(labelled_file_of) else {
+                    continue;
+                };
+                let allows_2 = versions == Versions::OneAndTwo;
+                meet_labels(&file, (0, file.len()), 1, &mut |depth, label| {
+                    let is_two = label.version == label::Version::Two;
+                    places.insert((allows_2, is_two, depth.min(9), label.is_group()));
+                    if is_two {
+                        lengths.insert((allows_2, label.is_group(), label.length));
+                    }
+                    allows_2 || !is_two
+                });
+            }
+            for (allows_2, is_group) in [(false, false), (false, true), (true, false), (true, true)]
+            {
+                for (depth, is_two) in (1..=8).flat_map(|depth| [(depth, false), (depth, true)]) {
+                    assert!(places.contains(&(allows_2, is_two, depth, is_group)));
+                }
+                for length in files::TURNS.into_iter().chain(files::LOOK_LIKE_TEXT) {
+                    assert!(lengths.contains(&(allows_2, is_group, length)), "{length}");
+                }
+            }
+        }
     }
 }

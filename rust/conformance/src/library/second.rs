@@ -1,54 +1,69 @@
 //! The second implementation behind the calls' types.
 
 use super::Library;
-use crestulbino::{Built, Kind, Label, Opening, Refusal, Refused, Row, Verdict, Window};
+use crestulbino::{
+    Built, Kind, Label, Opening, Refusal, Refused, Row, Verdict, Version, Versions, Window,
+};
 use independent::refusal::{self, Reason};
 use independent::{altimeter, kept, label, labelled, orbit, row_index, vax, waveform, window};
 
 /// The second implementation, written from the documents alone.
 pub const INDEPENDENT: Library = Library {
-    read_label: |bytes| {
-        let label = label::read(bytes).map_err(refused)?;
+    read_label: |versions, bytes| {
+        let label = label::read(taken(versions), bytes).map_err(refused)?;
         Ok(Label {
             agency: label.agency,
+            version: match label.version {
+                label::Version::One => Version::One,
+                label::Version::Two => Version::Two,
+            },
             class: label.class,
             description: label.description,
             length: label.length as usize,
             spaces: label.spaces,
         })
     },
-    write_label: |head, length, buffer| count(label::write(head, length as u64, buffer)),
+    write_label: |version, head, length, buffer| {
+        let version = match version {
+            Version::One => label::Version::One,
+            Version::Two => label::Version::Two,
+        };
+        count(label::write(version, head, length as u64, buffer))
+    },
     check: |kind, file| {
         count(match kind {
-            Kind::Labelled => labelled::check(file),
+            Kind::Labelled(versions) => labelled::check(taken(versions), file),
             Kind::Waveform => waveform::check(file),
         })
     },
     read_row: |kind, file, row, window| {
         let (row, window) = (row as u64, part_of_row(window));
         shown(match kind {
-            Kind::Labelled => labelled::read_row(file, row, window),
+            Kind::Labelled(versions) => labelled::read_row(taken(versions), file, row, window),
             Kind::Waveform => waveform::read_row(file, row, window),
         })
     },
-    jump_labelled: |file, list, row, window| {
-        shown(row_index::jump(file, list, row as u64, part_of_row(window)))
+    jump_labelled: |versions, file, list, row, window| {
+        let (row, window) = (row as u64, part_of_row(window));
+        shown(row_index::jump(taken(versions), file, list, row, window))
     },
     jump_waveform: |file, row, window| shown(waveform::jump(file, row as u64, part_of_row(window))),
     row_from: |kind, file, from| {
         shown(match kind {
-            Kind::Labelled => labelled::row_from(file, from as u64),
+            Kind::Labelled(versions) => labelled::row_from(taken(versions), file, from as u64),
             Kind::Waveform => waveform::row_from(file, from as u64),
         })
     },
-    build_index: |file, list| {
-        let built = row_index::build(file, list).map_err(refused)?;
+    build_index: |versions, file, list| {
+        let built = row_index::build(taken(versions), file, list).map_err(refused)?;
         Ok(Built {
             entries: built.entries as usize,
             rows: built.rows as usize,
         })
     },
-    check_index: |file, list| row_index::check(file, list).map_err(refused),
+    check_index: |versions, file, list| {
+        row_index::check(taken(versions), file, list).map_err(refused)
+    },
     keep_index: |list, buffer| count(kept::keep(list, buffer)),
     load_kept: |bytes, list| count(kept::load(bytes, list)),
     sample: |byte| waveform::sample(byte).into(),
@@ -70,6 +85,13 @@ pub const INDEPENDENT: Library = Library {
         })
     },
 };
+
+fn taken(versions: Versions) -> label::Versions {
+    match versions {
+        Versions::One => label::Versions::First,
+        Versions::OneAndTwo => label::Versions::Both,
+    }
+}
 
 fn count(answer: Result<u64, refusal::Refusal>) -> Result<usize, Refused> {
     answer.map(|count| count as usize).map_err(refused)

@@ -1,0 +1,301 @@
+//! The two versions of the label, tried with both implementations: each version at each depth, with
+//! lengths at the edges; files in which labels are written in the other version; and what it means
+//! that version 2 is not allowed.
+
+use conformance::generator::files::{self, Mix};
+use conformance::generator::random::Random;
+use conformance::library::{Library, INDEPENDENT, PROVED};
+use crestulbino::{Kind, Refusal, Refused, Version, Versions, Window};
+use independent::label;
+use std::fmt::Debug;
+
+const LIBRARIES: [Library; 2] = [INDEPENDENT, PROVED];
+
+const ONE: Kind = Kind::Labelled(Versions::One);
+const BOTH: Kind = Kind::Labelled(Versions::OneAndTwo);
+
+const LABEL: usize = 20;
+
+fn object(version: Version, class: u8, value: &[u8]) -> Vec<u8> {
+    let head = match version {
+        Version::One => b"CCSD1.00DEMO",
+        Version::Two => b"CCSD2.00DEMO",
+    };
+    let mut label = vec![0; LABEL];
+    let written = (PROVED.write_label)(version, &with_class(head, class), value.len(), &mut label);
+    assert_eq!(written, Ok(LABEL));
+    label.extend(value);
+    label
+}
+
+fn with_class(head: &[u8; 12], class: u8) -> [u8; 12] {
+    let mut head = *head;
+    head[5] = class;
+    head
+}
+
+/// An object inside of so many groups, of both versions in turn or of version 1 only.
+fn enclosed(mut inside: Vec<u8>, groups: usize, is_mixed: bool) -> Vec<u8> {
+    for number in 0..groups {
+        let version = match is_mixed && number % 2 == 0 {
+            true => Version::Two,
+            false => Version::One,
+        };
+        inside = object(version, b"ZUF"[number % 3], &inside);
+    }
+    inside
+}
+
+fn refused<T>(refusal: Refusal, place: usize) -> Result<T, Refused> {
+    Err(Refused { refusal, place })
+}
+
+/// Where the first row from the front stands.
+fn first_row(library: &Library, kind: Kind, file: &[u8]) -> Result<(usize, usize), Refused> {
+    let row = (library.row_from)(kind, file, 0);
+    row.map(|row| (row.place, row.bytes.len()))
+}
+
+#[test]
+fn each_version_at_each_depth() {
+    for (library, depth) in LIBRARIES.iter().flat_map(|l| (1..=8).map(move |d| (l, d))) {
+        let (place, value) = ((depth - 1) * LABEL, depth * LABEL);
+        for version in [Version::One, Version::Two] {
+            let leaf = object(version, b'I', b"abc");
+            let group = object(version, b'U', b"");
+            for is_mixed in [false, true] {
+                let file = enclosed(leaf.clone(), depth - 1, is_mixed);
+                assert_eq!((library.check)(BOTH, &file), Ok(1));
+                assert_eq!(first_row(library, BOTH, &file), Ok((value, 3)));
+                let file = enclosed(group.clone(), depth - 1, is_mixed);
+                assert_eq!((library.check)(BOTH, &file), Ok(0));
+                assert_eq!(first_row(library, BOTH, &file), refused(Refusal::NoRow, 0));
+            }
+            for (object, rows) in [(&leaf, 1), (&group, 0)] {
+                let file = enclosed(object.clone(), depth - 1, false);
+                let expected = match version {
+                    Version::One => Ok(rows),
+                    Version::Two => refused(Refusal::BadLabel, place),
+                };
+                assert_eq!((library.check)(ONE, &file), expected);
+                let row = first_row(library, ONE, &file).map(|_| rows);
+                let nothing = expected.and_then(|rows| match rows {
+                    0 => refused(Refusal::NoRow, 0),
+                    rows => Ok(rows),
+                });
+                assert_eq!(row, nothing);
+            }
+        }
+        // A ninth label, of either version, is too deep.
+        for version in [Version::One, Version::Two] {
+            let file = enclosed(object(version, b'I', b""), 8, depth % 2 == 0);
+            assert_eq!((library.check)(BOTH, &file), refused(Refusal::Deep, 160));
+        }
+    }
+}
+
+#[test]
+fn each_length_at_each_depth() {
+    for (library, depth) in LIBRARIES.iter().flat_map(|l| (1..=8).map(move |d| (l, d))) {
+        let (place, value) = ((depth - 1) * LABEL, depth * LABEL);
+        for binary in files::binaries() {
+            let mut leaf = enclosed(object(Version::Two, b'I', b"abc"), depth - 1, true);
+            let length = binary.of(3, value);
+            leaf[place + 12..value].copy_from_slice(&length.to_be_bytes());
+            let overrun = refused(Refusal::Overrun, place);
+            let expected = if length == 3 { Ok(1) } else { overrun };
+            assert_eq!((library.check)(BOTH, &leaf), expected, "{binary:?}");
+            let row = first_row(library, BOTH, &leaf);
+            assert_eq!(row.map(|_| 1), expected, "{binary:?}");
+
+            let row = object(Version::One, b'I', b"abc");
+            let inside = if depth == 8 { Vec::new() } else { row.clone() };
+            let rows = usize::from(depth < 8);
+            let inside_length = inside.len();
+            let mut group = enclosed(object(Version::Two, b'Z', &inside), depth - 1, true);
+            let length = binary.of(inside_length, value);
+            group[place + 12..value].copy_from_slice(&length.to_be_bytes());
+            let overrun = refused(Refusal::Overrun, place);
+            let fits = length == inside_length as u64;
+            let expected = if fits { Ok(rows) } else { overrun };
+            assert_eq!((library.check)(BOTH, &group), expected, "{binary:?}");
+            // The walk passes the label, whatever its length says.
+            let expected = match rows {
+                0 => refused(Refusal::NoRow, 0),
+                _ => Ok((value + LABEL, 3)),
+            };
+            assert_eq!(first_row(library, BOTH, &group), expected, "{binary:?}");
+        }
+    }
+}
+
+/// Where labels of version 1 stand, with lengths that are none too: in values as well.
+fn labels_of_version_1(file: &[u8]) -> Vec<(usize, u64)> {
+    let read = |place: usize| {
+        let label = label::read(label::Versions::First, &file[place..]).ok()?;
+        Some((place, label.length))
+    };
+    (0..file.len()).filter_map(read).collect()
+}
+
+/// The same file with some of its labels of version 1 written in version 2, of the same lengths.
+fn rewritten(file: &[u8], random: &mut Random) -> Vec<u8> {
+    let mut file = file.to_vec();
+    let percent = random.pick(&[10, 50, 50, 100]);
+    for (place, length) in labels_of_version_1(&file) {
+        if random.chance(percent) {
+            file[place + 4] = b'2';
+            file[place + 12..place + LABEL].copy_from_slice(&length.to_be_bytes());
+        }
+    }
+    file
+}
+
+/// What a library says of a file: an answer for each call, with every refusal and every place, but
+/// without the bytes themselves.
+fn all_answers(library: &Library, versions: Versions, file: &[u8], list: &[u32]) -> Vec<Answer> {
+    let kind = Kind::Labelled(versions);
+    let mut built = [7; 8];
+    let index = (library.build_index)(versions, file, &mut built);
+    let checked = (library.check)(kind, file);
+    let mut answers = vec![
+        answer(checked),
+        answer(index.map(|index| (index, built))),
+        answer((library.check_index)(versions, file, list)),
+    ];
+    // As many whatever is told, so that the answers can be set side by side.
+    for row in (0..20).chain([31, 32, 33]) {
+        let window = Window::new(0, row % 3);
+        let read = (library.read_row)(kind, file, row, window);
+        let jumped = (library.jump_labelled)(versions, file, list, row, window);
+        answers.extend([read, jumped].map(|row| answer(row.map(|row| row.place))));
+    }
+    for from in 0..=file.len().min(200) {
+        let row = (library.row_from)(kind, file, from);
+        answers.push(answer(row.map(|row| (row.place, row.bytes.len()))));
+    }
+    answers
+}
+
+/// An answer in words, or a refusal.
+type Answer = Result<String, Refused>;
+
+fn answer(given: Result<impl Debug, Refused>) -> Answer {
+    given.map(|parts| format!("{parts:?}"))
+}
+
+/// Told that both are allowed, a label of version 2 is the same as one of version 1 with its length.
+#[test]
+fn the_two_versions_are_the_same_to_every_call() {
+    let mut random = Random::new(31);
+    let (mut accepted, mut changed) = (0, 0);
+    for _ in 0..1_000 {
+        let mix = random.pick(&[Mix::None, Mix::None, Mix::Half]);
+        let mut file = files::labelled_with(mix, &mut random);
+        if random.chance(50) {
+            files::damage(&mut file, &mut random);
+        }
+        let list = file.index();
+        let other = rewritten(&file.bytes, &mut random);
+        changed += u32::from(other != file.bytes);
+        for library in &LIBRARIES {
+            let answers = all_answers(library, Versions::OneAndTwo, &file.bytes, &list);
+            let others = all_answers(library, Versions::OneAndTwo, &other, &list);
+            assert_eq!(answers, others);
+            accepted += u32::from(answers[0].is_ok());
+        }
+    }
+    assert!((400..1_800).contains(&accepted), "{accepted} accepted");
+    assert!(changed > 600, "{changed} changed");
+}
+
+/// Whether a call told version 1 only has met a label of version 2, and nothing else is wrong with
+/// the label's type.
+fn met_version_2(file: &[u8], answer: &Answer) -> bool {
+    let Err(refused) = answer else {
+        return false;
+    };
+    let label = label::read(label::Versions::Both, &file[refused.place..]);
+    refused.refusal == Refusal::BadLabel
+        && label.is_ok_and(|label| label.version == label::Version::Two)
+}
+
+/// Version 1 only: refusal 2 at the first label of version 2 that is met, and where none is met the
+/// answer is the same.
+#[test]
+fn what_is_not_allowed_is_no_label() {
+    let mut random = Random::new(32);
+    let (mut met, mut others) = (0, 0);
+    for _ in 0..1_000 {
+        let mut file = files::labelled(&mut random);
+        if random.chance(40) {
+            files::damage(&mut file, &mut random);
+        }
+        let list = file.index();
+        for library in &LIBRARIES {
+            let told = [Versions::One, Versions::OneAndTwo];
+            let [one, both] = told.map(|told| all_answers(library, told, &file.bytes, &list));
+            for (one, both) in one.iter().zip(&both) {
+                if met_version_2(&file.bytes, one) {
+                    assert_ne!(one, both);
+                    met += 1;
+                } else {
+                    assert_eq!(one, both);
+                    others += 1;
+                }
+            }
+        }
+    }
+    assert!(met > 20_000 && others > 100_000, "{met} {others}");
+}
+
+/// A file whose labels are all of version 1 is the same whatever is told.
+#[test]
+fn every_old_answer_stands() {
+    let mut random = Random::new(33);
+    for _ in 0..500 {
+        let mut file = files::labelled_with(Mix::None, &mut random);
+        if random.chance(50) {
+            files::damage(&mut file, &mut random);
+        }
+        // Damage may bring in a 2.
+        let is_two = |five: &[u8]| matches!(five, b"NJPL2" | b"CCSD2");
+        if file.bytes.windows(5).any(is_two) {
+            continue;
+        }
+        let list = file.index();
+        for library in &LIBRARIES {
+            let told = [Versions::One, Versions::OneAndTwo];
+            let [one, both] = told.map(|told| all_answers(library, told, &file.bytes, &list));
+            assert_eq!(one, both);
+        }
+    }
+}
+
+/// What the writer writes, the reader reads, told that its version is allowed.
+#[test]
+fn labels_are_read_as_they_were_written() {
+    let lengths = files::TURNS.into_iter().chain(files::LOOK_LIKE_TEXT);
+    let lengths = lengths.chain([0, 1, 3, 99_999_998, 99_999_999, 100_000_000]);
+    for (length, library) in lengths.flat_map(|length| LIBRARIES.map(|library| (length, library))) {
+        for (version, head) in [
+            (Version::One, b"NJPL1I00DEMO"),
+            (Version::Two, b"NJPL2I00DEMO"),
+        ] {
+            let mut label = *b"......................";
+            let written = (library.write_label)(version, head, length as usize, &mut label);
+            if version == Version::One && length > 99_999_999 {
+                assert_eq!(written, refused(Refusal::TooLong, 0));
+                assert_eq!(&label, b"......................");
+                continue;
+            }
+            assert_eq!((written, &label[LABEL..]), (Ok(LABEL), &b".."[..]));
+            let read = (library.read_label)(Versions::OneAndTwo, &label).unwrap();
+            assert_eq!((read.version, read.spaces), (version, 0));
+            assert_eq!(read.length as u64, length);
+            assert_eq!(&label[..12], head);
+            let only_one = (library.read_label)(Versions::One, &label);
+            assert_eq!(only_one.is_ok(), version == Version::One);
+        }
+    }
+}
