@@ -22,15 +22,35 @@ impl Numbers {
     }
 }
 
-/// How a length is written into its eight bytes.
-pub type Field = fn(usize) -> String;
+/// How a length is written into a label's last eight bytes, and the version that this makes it.
+#[derive(Clone, Copy)]
+pub struct Form {
+    version: u8,
+    field: fn(usize) -> [u8; 8],
+}
 
-pub const DIGITS: Field = |length| format!("{length:08}");
+pub const DIGITS: Form = Form {
+    version: b'1',
+    field: |length| eight(format!("{length:08}")),
+};
 
-pub const SPACES_AND_DIGITS: Field = |length| format!("{length:8}");
+pub const SPACES_AND_DIGITS: Form = Form {
+    version: b'1',
+    field: |length| eight(format!("{length:8}")),
+};
+
+pub const BINARY: Form = Form {
+    version: b'2',
+    field: |length| (length as u64).to_be_bytes(),
+};
+
+fn eight(text: String) -> [u8; 8] {
+    let bytes = text.into_bytes();
+    bytes.try_into().expect("a length of eight bytes")
+}
 
 /// A labelled file of rows of 0 to 63 bytes: ten to a group, ten groups to a group.
-pub fn labelled(numbers: &mut Numbers, field: Field) -> Vec<u8> {
+pub fn labelled(numbers: &mut Numbers, form: Form) -> Vec<u8> {
     let mut file = Vec::new();
     let mut rows = 0;
     while rows < ROWS {
@@ -39,33 +59,34 @@ pub fn labelled(numbers: &mut Numbers, field: Field) -> Vec<u8> {
             let mut inner = Vec::new();
             for _ in 0..10 {
                 let value = vec![b'v'; numbers.below(64)];
-                object(b"NJPL1I00DEMO", &value, field, &mut inner);
+                object(b"NJPL.I00DEMO", &value, form, &mut inner);
                 rows += 1;
             }
-            object(b"CCSD1Z000001", &inner, field, &mut outer);
+            object(b"CCSD.Z000001", &inner, form, &mut outer);
         }
-        object(b"CCSD1Z000001", &outer, field, &mut file);
+        object(b"CCSD.Z000001", &outer, form, &mut file);
     }
     file
 }
 
-fn object(head: &[u8; 12], value: &[u8], field: Field, file: &mut Vec<u8>) {
-    file.extend(label(head, value.len(), field));
+fn object(head: &[u8; 12], value: &[u8], form: Form, file: &mut Vec<u8>) {
+    file.extend(label(head, value.len(), form));
     file.extend(value);
 }
 
-fn label(head: &[u8; 12], length: usize, field: Field) -> [u8; 20] {
+fn label(head: &[u8; 12], length: usize, form: Form) -> [u8; 20] {
     let mut label = [0; 20];
     label[..12].copy_from_slice(head);
-    label[12..].copy_from_slice(field(length).as_bytes());
+    label[4] = form.version;
+    label[12..].copy_from_slice(&(form.field)(length));
     label
 }
 
 /// Labels of values of 0 to 63 bytes.
-pub fn labels(numbers: &mut Numbers, count: usize, field: Field) -> Vec<[u8; 20]> {
+pub fn labels(numbers: &mut Numbers, count: usize, form: Form) -> Vec<[u8; 20]> {
     let lengths = (0..count).map(|_| numbers.below(64));
     lengths
-        .map(|length| label(b"NJPL1I00DEMO", length, field))
+        .map(|length| label(b"NJPL.I00DEMO", length, form))
         .collect()
 }
 

@@ -4,8 +4,8 @@
 mod inputs;
 mod plain;
 
-use crestulbino::{Kind, Window};
-use inputs::{Numbers, DIGITS, ROWS, SPACES_AND_DIGITS, WAVEFORM_ROWS};
+use crestulbino::{Kind, Versions, Window};
+use inputs::{Numbers, BINARY, DIGITS, ROWS, SPACES_AND_DIGITS, WAVEFORM_ROWS};
 use std::hint::black_box;
 use std::time::{Duration, Instant};
 
@@ -21,14 +21,23 @@ const REPEATS: usize = 50;
 
 const EMPTY: Window = Window::new(0, 0);
 
+const ONE: Versions = Versions::One;
+const BOTH: Versions = Versions::OneAndTwo;
+
+/// What plain Rust is told.
+fn version_2(versions: Versions) -> bool {
+    versions == BOTH
+}
+
 fn main() {
     let mut numbers = Numbers::new();
     let file = inputs::labelled(&mut numbers, DIGITS);
     let waveform = inputs::waveform(&mut numbers);
     let times = inputs::vax_numbers(&mut numbers, NUMBERS);
-    let padded = inputs::labelled(&mut Numbers::new(), SPACES_AND_DIGITS);
-    let [labels, padded_labels] = [DIGITS, SPACES_AND_DIGITS]
-        .map(|field| inputs::labels(&mut Numbers::new(), NUMBERS, field));
+    let [padded, binary] =
+        [SPACES_AND_DIGITS, BINARY].map(|form| inputs::labelled(&mut Numbers::new(), form));
+    let [labels, padded_labels, binary_labels] = [DIGITS, SPACES_AND_DIGITS, BINARY]
+        .map(|form| inputs::labels(&mut Numbers::new(), NUMBERS, form));
     let rows = |of: usize| -> Vec<usize> {
         let mut numbers = Numbers::new();
         (0..JUMPS).map(|_| numbers.below(of)).collect()
@@ -39,65 +48,82 @@ fn main() {
     );
     println!("| Call | Proved | Plain Rust | Ratio |");
     println!("|---|---|---|---|");
-    labelled_calls(&file, &rows(ROWS));
+    labelled_calls("", ONE, &file, &rows(ROWS));
     waveform_calls(&waveform, &rows(WAVEFORM_ROWS));
     number_calls(&times, &waveform[..NUMBERS]);
-    read_labels("read_label, a label", &labels);
-    read_labels("read_label padded, a label", &padded_labels);
-    check_labelled("check padded, a row", &padded);
-    row_after_row("row_from padded row after row, a row", &padded);
+    read_labels("read_label, a label", ONE, &labels);
+    read_labels("read_label padded, a label", ONE, &padded_labels);
+    check_labelled("check padded, a row", ONE, &padded);
+    row_after_row("row_from padded row after row, a row", ONE, &padded);
+    check_labelled("check labelled, both versions allowed, a row", BOTH, &file);
+    labelled_calls(" version 2", BOTH, &binary, &rows(ROWS));
+    read_labels("read_label version 2, a label", BOTH, &binary_labels);
 }
 
-fn labelled_calls(file: &[u8], rows: &[usize]) {
-    check_labelled("check labelled, a row", file);
+/// The calls on a labelled file, with these words behind their names.
+fn labelled_calls(of: &str, versions: Versions, file: &[u8], rows: &[usize]) {
+    let version_2 = version_2(versions);
+    check_labelled(&format!("check labelled{of}, a row"), versions, file);
     let (mut one, mut other) = (vec![1; ROWS], vec![1; ROWS]);
     compare(
-        "build_index, a row",
+        &format!("build_index{of}, a row"),
         ROWS,
-        || crestulbino::build_index(black_box(file), &mut one).map_or(0, |built| built.entries),
-        || plain::build_index(black_box(file), &mut other).map_or(0, |built| built.0),
+        || {
+            let built = crestulbino::build_index(versions, black_box(file), &mut one);
+            built.map_or(0, |built| built.entries)
+        },
+        || plain::build_index(black_box(file), version_2, &mut other).map_or(0, |built| built.0),
     );
     assert_eq!(one, other, "the two indexes");
     let list = &one[..ROWS.div_ceil(crestulbino::ROWS_PER_ENTRY)];
     compare(
-        "check_index, a row",
+        &format!("check_index{of}, a row"),
         ROWS,
-        || usize::from(crestulbino::check_index(black_box(file), list).is_ok()),
-        || usize::from(plain::check_index(black_box(file), list).is_ok()),
+        || usize::from(crestulbino::check_index(versions, black_box(file), list).is_ok()),
+        || usize::from(plain::check_index(black_box(file), version_2, list).is_ok()),
     );
     compare(
-        "jump_labelled, a jump",
+        &format!("jump_labelled{of}, a jump"),
         rows.len(),
         || {
             sum(rows, |row| {
-                crestulbino::jump_labelled(file, list, row, EMPTY).map_or(0, |row| row.place)
+                let row = crestulbino::jump_labelled(versions, file, list, row, EMPTY);
+                row.map_or(0, |row| row.place)
             })
         },
         || {
             sum(rows, |row| {
-                plain::jump_labelled(file, list, row, 0, 0).map_or(0, |(place, _)| place)
+                let row = plain::jump_labelled(file, version_2, list, row, 0, 0);
+                row.map_or(0, |(place, _)| place)
             })
         },
     );
-    row_after_row("row_from row after row, a row", file);
-}
-
-fn check_labelled(name: &str, file: &[u8]) {
-    compare(
-        name,
-        ROWS,
-        || crestulbino::check(Kind::Labelled, black_box(file)).unwrap_or(0),
-        || plain::check(black_box(file)).unwrap_or(0),
+    row_after_row(
+        &format!("row_from{of} row after row, a row"),
+        versions,
+        file,
     );
 }
 
-fn row_after_row(name: &str, file: &[u8]) {
+fn check_labelled(name: &str, versions: Versions, file: &[u8]) {
+    let version_2 = version_2(versions);
+    compare(
+        name,
+        ROWS,
+        || crestulbino::check(Kind::Labelled(versions), black_box(file)).unwrap_or(0),
+        || plain::check(black_box(file), version_2).unwrap_or(0),
+    );
+}
+
+fn row_after_row(name: &str, versions: Versions, file: &[u8]) {
+    let version_2 = version_2(versions);
     compare(
         name,
         ROWS,
         || {
             let (mut from, mut rows) = (0, 0);
-            while let Ok(row) = crestulbino::row_from(Kind::Labelled, black_box(file), from) {
+            let kind = Kind::Labelled(versions);
+            while let Ok(row) = crestulbino::row_from(kind, black_box(file), from) {
                 from = row.end();
                 rows += 1;
             }
@@ -105,7 +131,7 @@ fn row_after_row(name: &str, file: &[u8]) {
         },
         || {
             let (mut from, mut rows) = (0, 0);
-            while let Ok((place, bytes)) = plain::row_from(black_box(file), from) {
+            while let Ok((place, bytes)) = plain::row_from(black_box(file), version_2, from) {
                 from = place + bytes.len();
                 rows += 1;
             }
@@ -115,24 +141,27 @@ fn row_after_row(name: &str, file: &[u8]) {
 }
 
 /// All parts of each label go into its answer.
-fn read_labels(name: &str, labels: &[[u8; 20]]) {
+fn read_labels(name: &str, versions: Versions, labels: &[[u8; 20]]) {
+    let version_2 = version_2(versions);
     let word = |four: [u8; 4]| u32::from_le_bytes(four) as usize;
     compare(
         name,
         REPEATS * labels.len(),
         || {
             repeated(labels, |label| {
-                crestulbino::read_label(label).map_or(0, |label| {
+                crestulbino::read_label(versions, label).map_or(0, |label| {
                     let head = word(label.agency) + word(label.description);
-                    head + usize::from(label.class) + label.length + usize::from(label.spaces)
+                    let small = [label.version.number(), label.class, label.spaces];
+                    head + label.length + small.map(usize::from).iter().sum::<usize>()
                 })
             })
         },
         || {
             repeated(labels, |label| {
-                plain::read_label(label).map_or(0, |label| {
+                plain::read_label(label, version_2).map_or(0, |label| {
                     let head = word(label.agency) + word(label.description);
-                    head + usize::from(label.class) + label.length + label.spaces
+                    let small = [label.version, label.class].map(usize::from);
+                    head + label.length + label.spaces + small.iter().sum::<usize>()
                 })
             })
         },

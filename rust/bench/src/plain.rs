@@ -20,20 +20,23 @@ const SAMPLES: usize = 2_048;
 /// The variable parts of a label.
 pub struct Label {
     pub agency: [u8; 4],
+    pub version: u8,
     pub class: u8,
     pub description: [u8; 4],
     pub length: usize,
     pub spaces: usize,
 }
 
-/// Reads the label at the front of the bytes.
+/// Reads the label at the front of the bytes. As with every call here, `version_2` says whether
+/// version 2 is allowed.
 #[inline(never)]
-pub fn read_label(bytes: &[u8]) -> Result<Label, Fault> {
+pub fn read_label(bytes: &[u8], version_2: bool) -> Result<Label, Fault> {
     let read = || {
-        let (head, field) = head_and_field(bytes)?;
-        let (spaces, length) = spaces_and_length(field)?;
+        let (head, field) = head_and_field(bytes, version_2)?;
+        let (spaces, length) = spaces_and_length(head, field)?;
         Ok(Label {
             agency: [head[0], head[1], head[2], head[3]],
+            version: head[4] - b'0',
             class: head[5],
             description: [head[8], head[9], head[10], head[11]],
             length,
@@ -44,19 +47,19 @@ pub fn read_label(bytes: &[u8]) -> Result<Label, Fault> {
 }
 
 /// Whether the label at the front of the bytes opens a group, and its length.
-fn label(bytes: &[u8]) -> Result<(bool, usize), u8> {
-    let (head, field) = head_and_field(bytes)?;
-    let (_, length) = spaces_and_length(field)?;
+fn label(bytes: &[u8], version_2: bool) -> Result<(bool, usize), u8> {
+    let (head, field) = head_and_field(bytes, version_2)?;
+    let (_, length) = spaces_and_length(head, field)?;
     Ok((matches!(head[5], b'F' | b'U' | b'Z'), length))
 }
 
 /// The two parts of the label at the front of the bytes, of which the first is good.
 #[inline(always)]
-fn head_and_field(bytes: &[u8]) -> Result<(&[u8; 12], &[u8; 8]), u8> {
+fn head_and_field(bytes: &[u8], version_2: bool) -> Result<(&[u8; 12], &[u8; 8]), u8> {
     let label: &[u8; LABEL] = bytes.first_chunk().ok_or(1)?;
     let (head, field) = label.split_first_chunk().ok_or(1)?;
     let is_head = matches!(&head[..4], b"NJPL" | b"CCSD")
-        && head[4] == b'1'
+        && (head[4] == b'1' || version_2 && head[4] == b'2')
         && head[5].is_ascii_uppercase()
         && head[6..8] == *b"00"
         && head[8..]
@@ -68,9 +71,13 @@ fn head_and_field(bytes: &[u8]) -> Result<(&[u8; 12], &[u8; 8]), u8> {
     Ok((head, field.first_chunk().ok_or(1)?))
 }
 
-/// How many spaces a length field begins with, and the number behind them.
+/// How many spaces a length field begins with, and the number behind them; in version 2 the binary
+/// number.
 #[inline(always)]
-fn spaces_and_length(field: &[u8; 8]) -> Result<(usize, usize), u8> {
+fn spaces_and_length(head: &[u8; 12], field: &[u8; 8]) -> Result<(usize, usize), u8> {
+    if head[4] == b'2' {
+        return Ok((0, u64::from_be_bytes(*field) as usize));
+    }
     if field[0] != b' ' {
         // Eight digits, which the compiler counts on.
         return Ok((0, number(field)?));
@@ -104,7 +111,7 @@ fn check_size(file: &[u8]) -> Result<(), Fault> {
 
 /// Checks a labelled file and counts its rows.
 #[inline(never)]
-pub fn check(file: &[u8]) -> Result<usize, Fault> {
+pub fn check(file: &[u8], version_2: bool) -> Result<usize, Fault> {
     check_size(file)?;
     let mut outer_ends = [0; DEEPEST];
     let mut depth = 0;
@@ -122,7 +129,8 @@ pub fn check(file: &[u8]) -> Result<usize, Fault> {
         if depth == DEEPEST {
             return Err((5, place));
         }
-        let (is_group, length) = label(&file[place..end]).map_err(|number| (number, place))?;
+        let label = label(&file[place..end], version_2);
+        let (is_group, length) = label.map_err(|number| (number, place))?;
         let value = place + LABEL;
         if length > end - value {
             return Err((4, place));
@@ -150,6 +158,7 @@ struct Leaf {
 /// The leaves from a place on, with no memory of depth.
 struct Leaves<'a> {
     file: &'a [u8],
+    version_2: bool,
     place: usize,
 }
 
@@ -161,7 +170,7 @@ impl Iterator for Leaves<'_> {
         loop {
             let place = self.place;
             let rest = self.file.get(place..).filter(|rest| !rest.is_empty())?;
-            let (is_group, length) = match label(rest) {
+            let (is_group, length) = match label(rest, self.version_2) {
                 Ok(label) => label,
                 Err(number) => return Some(Err((number, place))),
             };
@@ -183,23 +192,31 @@ impl Iterator for Leaves<'_> {
     }
 }
 
-fn leaves(file: &[u8], place: usize) -> Leaves<'_> {
-    Leaves { file, place }
+fn leaves(file: &[u8], version_2: bool, place: usize) -> Leaves<'_> {
+    Leaves {
+        file,
+        version_2,
+        place,
+    }
 }
 
 /// The places of the labels of rows 0, 16, 32 and so on.
-fn entries(file: &[u8]) -> impl Iterator<Item = Result<u32, Fault>> + '_ {
-    let places = leaves(file, 0).step_by(ROWS_PER_ENTRY);
+fn entries(file: &[u8], version_2: bool) -> impl Iterator<Item = Result<u32, Fault>> + '_ {
+    let places = leaves(file, version_2, 0).step_by(ROWS_PER_ENTRY);
     places.map(|leaf| leaf.map(|leaf| leaf.label as u32))
 }
 
 /// Writes the index of a file, and answers how many entries and rows it has.
 #[inline(never)]
-pub fn build_index(file: &[u8], list: &mut [u32]) -> Result<(usize, usize), Fault> {
-    let rows = check(file)?;
+pub fn build_index(
+    file: &[u8],
+    version_2: bool,
+    list: &mut [u32],
+) -> Result<(usize, usize), Fault> {
+    let rows = check(file, version_2)?;
     let count = rows.div_ceil(ROWS_PER_ENTRY);
     let list = list.get_mut(..count).ok_or((8, 0))?;
-    for (slot, entry) in list.iter_mut().zip(entries(file)) {
+    for (slot, entry) in list.iter_mut().zip(entries(file, version_2)) {
         *slot = entry?;
     }
     Ok((count, rows))
@@ -207,12 +224,12 @@ pub fn build_index(file: &[u8], list: &mut [u32]) -> Result<(usize, usize), Faul
 
 /// Accepts exactly the index of an accepted file.
 #[inline(never)]
-pub fn check_index(file: &[u8], list: &[u32]) -> Result<(), Fault> {
-    let rows = check(file)?;
+pub fn check_index(file: &[u8], version_2: bool, list: &[u32]) -> Result<(), Fault> {
+    let rows = check(file, version_2)?;
     let is_index = list.len() == rows.div_ceil(ROWS_PER_ENTRY)
         && list
             .iter()
-            .zip(entries(file))
+            .zip(entries(file, version_2))
             .all(|(&entry, place)| place == Ok(entry));
     if is_index {
         Ok(())
@@ -236,6 +253,7 @@ fn window(file: &[u8], row: usize, length: usize, first: usize, count: usize) ->
 #[inline(never)]
 pub fn jump_labelled<'a>(
     file: &'a [u8],
+    version_2: bool,
     list: &[u32],
     row: usize,
     first: usize,
@@ -247,7 +265,7 @@ pub fn jump_labelled<'a>(
     if entry > file.len() {
         return Err((11, 0));
     }
-    let mut leaves = leaves(file, entry);
+    let mut leaves = leaves(file, version_2, entry);
     for _ in 0..row % ROWS_PER_ENTRY {
         leaves.next().ok_or((6, 0))??;
     }
@@ -257,9 +275,9 @@ pub fn jump_labelled<'a>(
 
 /// Gives the first row from a place on, whole.
 #[inline(never)]
-pub fn row_from(file: &[u8], from: usize) -> Shown<'_> {
+pub fn row_from(file: &[u8], version_2: bool, from: usize) -> Shown<'_> {
     check_size(file)?;
-    let leaf = leaves(file, from).next().ok_or((6, 0))??;
+    let leaf = leaves(file, version_2, from).next().ok_or((6, 0))??;
     window(file, leaf.value, leaf.length, 0, leaf.length)
 }
 

@@ -48,3 +48,11 @@ fn stored_answers_of_classes() {
         include_str!("data/classes.answers"),
     );
 }
+
+#[test]
+fn stored_answers_of_versions() {
+    same(
+        include_str!("data/versions.cases"),
+        include_str!("data/versions.answers"),
+    );
+}
