@@ -220,9 +220,9 @@ pub enum Mix {
 impl Mix {
     fn any(random: &mut Random) -> Mix {
         random.weighted(&[
-            (34, Mix::None),
+            (38, Mix::None),
             (12, Mix::All),
-            (24, Mix::Half),
+            (20, Mix::Half),
             (10, Mix::Late),
             (8, Mix::Single),
             (6, Mix::Groups),
@@ -500,8 +500,8 @@ pub fn labelled_with(mix: Mix, random: &mut Random) -> LabelledFile {
         (4, Shape::Empty),
         (6, Shape::Demo),
         (6, Shape::Published),
-        (46, Shape::Rows),
-        (16, Shape::Chain),
+        (42, Shape::Rows),
+        (20, Shape::Chain),
         (21, Shape::Tree),
         (1, Shape::Large),
     ]);
@@ -1201,7 +1201,7 @@ mod tests {
             }
         }
         assert!(
-            mixed > 400 && none > 150 && all > 50 && late > 15,
+            mixed > 300 && none > 150 && all > 50 && late > 15,
             "{none} {mixed} {all} {late}"
         );
     }

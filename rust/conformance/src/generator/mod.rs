@@ -91,6 +91,8 @@ const CALLS: [(u64, Call); 23] = [
     (110, Generator::verdict),
 ];
 
+const VERSIONS: [Version; 2] = [Version::One, Version::Two];
+
 const CHOICES: [Versions; 2] = [Versions::One, Versions::OneAndTwo];
 
 /// A call on a file, above all on the object at a place of it.
@@ -196,34 +198,45 @@ impl Generator {
         bytes
     }
 
-    /// A label, mostly with a byte or two at the edges of what is allowed, at times cut off or with
-    /// more behind it.
+    /// A label with a byte at the edges of what is allowed, at times with more behind it.
     fn read_harmed_label(&mut self) -> Case {
+        if self.random.chance(10) {
+            return self.read_cut_label();
+        }
         let (version, position, byte) = self.label_harms.deal(&mut self.random);
-        let mut bytes = self.head(version).to_vec();
-        bytes.extend(self.field(version));
-        let mut harms = vec![(position, byte)];
-        match self.random.between(0, 99) {
-            0..=9 => harms.clear(),
-            10..=19 => harms.push(self.random.pick(&odd_bytes(20))),
-            _ => {}
-        }
-        for (position, byte) in harms {
-            bytes[position] = byte;
-        }
-        match self.random.between(0, 9) {
-            0 => bytes.truncate(self.random.between(0, 19)),
-            1 => {
-                let more = self.random.between(1, 30);
-                bytes.extend(self.random.bytes(more));
-            }
-            _ => {}
+        let mut bytes = self.label(version);
+        bytes[position] = byte;
+        if self.random.chance(20) {
+            let more = self.random.between(1, 30);
+            bytes.extend(self.random.bytes(more));
         }
         let versions = match version {
             Version::One => self.random.pick(&CHOICES),
             Version::Two => Versions::OneAndTwo,
         };
         Case::ReadLabel { bytes, versions }
+    }
+
+    /// A label that is cut off, mostly, with up to two bytes at the edges of what is allowed.
+    fn read_cut_label(&mut self) -> Case {
+        let version = self.random.pick(&VERSIONS);
+        let mut bytes = self.label(version);
+        for _ in 0..self.random.between(0, 2) {
+            let (position, byte) = self.random.pick(&odd_bytes(20));
+            bytes[position] = byte;
+        }
+        if self.random.chance(70) {
+            bytes.truncate(self.random.between(0, 19));
+        }
+        let versions = self.random.pick(&CHOICES);
+        Case::ReadLabel { bytes, versions }
+    }
+
+    /// A whole label of this version.
+    fn label(&mut self, version: Version) -> Vec<u8> {
+        let mut bytes = self.head(version).to_vec();
+        bytes.extend(self.field(version));
+        bytes
     }
 
     /// A length field of a label of this version.
@@ -255,7 +268,7 @@ impl Generator {
                 buffer: self.random.bytes(written.room),
             };
         }
-        let version = self.random.pick(&[Version::One, Version::Two]);
+        let version = self.random.pick(&VERSIONS);
         let mut head = self.head(version).to_vec();
         match self.random.between(0, 9) {
             0 => head.truncate(11),
@@ -592,7 +605,7 @@ impl Generator {
 
     /// What a call is told of a file: mostly what allows its labels.
     fn told_of(&mut self, file: &LabelledFile) -> Versions {
-        let both_percent = if file.has_version_2() { 75 } else { 45 };
+        let both_percent = if file.has_version_2() { 75 } else { 40 };
         CHOICES[usize::from(self.random.chance(both_percent))]
     }
 
@@ -844,13 +857,12 @@ const WRITTEN_LENGTHS: [usize; 14] = [
 
 /// Each version in type bytes of each, with lengths and rooms at their edges.
 fn written() -> Vec<Written> {
-    let versions = [Version::One, Version::Two];
     let mut labels = Vec::new();
-    for (version, said) in versions
-        .into_iter()
-        .flat_map(|one| versions.map(|other| (one, other)))
-    {
-        for length in WRITTEN_LENGTHS {
+    for length in WRITTEN_LENGTHS {
+        for (version, said) in VERSIONS
+            .into_iter()
+            .flat_map(|one| VERSIONS.map(|other| (one, other)))
+        {
             labels.extend([19, 20, 21].map(|room| Written {
                 version,
                 said,
