@@ -9,6 +9,9 @@ use crestulbino::{Built, Kind, Label, Opening, Refused, Row, Verdict, Version, V
 /// What a call comes to.
 pub type Answer<T> = Result<T, Refused>;
 
+/// A jump into a labelled file, whose row borrows from the file alone.
+pub type JumpLabelled = for<'a> fn(Versions, &'a [u8], &[u32], usize, Window) -> Answer<Row<'a>>;
+
 /// An implementation of the calls, with the types of the crate over the proved library.
 #[derive(Clone, Copy, Debug)]
 pub struct Library {
@@ -16,7 +19,7 @@ pub struct Library {
     pub write_label: fn(Version, &[u8], usize, &mut [u8]) -> Answer<usize>,
     pub check: fn(Kind, &[u8]) -> Answer<usize>,
     pub read_row: fn(Kind, &[u8], usize, Window) -> Answer<Row<'_>>,
-    pub jump_labelled: for<'a> fn(Versions, &'a [u8], &[u32], usize, Window) -> Answer<Row<'a>>,
+    pub jump_labelled: JumpLabelled,
     pub jump_waveform: fn(&[u8], usize, Window) -> Answer<Row<'_>>,
     pub row_from: fn(Kind, &[u8], usize) -> Answer<Row<'_>>,
     pub build_index: fn(Versions, &[u8], &mut [u32]) -> Answer<Built>,

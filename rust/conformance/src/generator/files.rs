@@ -142,10 +142,8 @@ impl LabelledFile {
 
     /// Whether a label at one of the spots is of version 2.
     pub fn has_version_2(&self) -> bool {
-        let places = self.spots.iter().map(|spot| spot.place);
-        places
-            .into_iter()
-            .any(|place| self.version_at(place) == Version::Two)
+        let is_two = |spot: &Spot| self.version_at(spot.place) == Version::Two;
+        self.spots.iter().any(is_two)
     }
 
     /// The version of the label at `place`, by which its length is written.
@@ -1183,11 +1181,8 @@ mod tests {
         let (mut none, mut mixed, mut all, mut late) = (0, 0, 0, 0);
         for _ in 0..1_000 {
             let file = labelled(&mut random);
-            let versions: Vec<Version> = file
-                .spots
-                .iter()
-                .map(|s| file.version_at(s.place))
-                .collect();
+            let version = |spot: &Spot| file.version_at(spot.place);
+            let versions: Vec<Version> = file.spots.iter().map(version).collect();
             if versions.len() < 2 {
                 continue;
             }

@@ -67,7 +67,7 @@ type Call = fn(&mut Generator) -> Case;
 /// How often each call is asked.
 const CALLS: [(u64, Call); 23] = [
     (100, Generator::read_label),
-    (50, Generator::write_label),
+    (54, Generator::write_label),
     (38, Generator::check_labelled),
     (9, Generator::check_waveform),
     (53, Generator::read_row_labelled),
@@ -270,15 +270,15 @@ impl Generator {
         }
         let version = self.random.pick(&VERSIONS);
         let mut head = self.head(version).to_vec();
-        match self.random.between(0, 9) {
+        match self.random.between(0, 11) {
             0 => head.truncate(11),
             1 => head.push(self.random.pick(b"0A")),
             2 => head.clear(),
-            3..=9 => {
+            3 => {}
+            _ => {
                 let (position, byte) = self.head_harms.deal(&mut self.random);
                 head[position] = byte;
             }
-            _ => {}
         }
         let any = self.random.between(0, 99_999_999);
         let length = self.random.pick(&WRITTEN_LENGTHS);
@@ -1067,8 +1067,8 @@ mod tests {
         }
     }
 
-    /// Passes a label and what follows it up to `end` to `meet`, an object's inside before what
-    /// follows it, until that or a fault ends it.
+    /// Lends the labels between two places to `meet`, each with its depth, an object's inside before
+    /// what follows it. It ends at a fault, or where `meet` says so.
     fn meet_labels(
         file: &[u8],
         (mut place, end): (usize, usize),
@@ -1089,7 +1089,7 @@ mod tests {
         Some(())
     }
 
-    /// Labels up to the first one that is not allowed, that one too.
+    /// Of a file with a label that is not allowed, the labels up to it are looked at, and it.
     #[test]
     fn ten_thousand_cases_hold_each_version_everywhere_and_each_length() {
         for seed in 0..3 {
