@@ -2,7 +2,7 @@
 //! lengths at the edges; files in which labels are written in the other version; and what it means
 //! that version 2 is not allowed.
 
-use conformance::generator::files::{self, Mix};
+use conformance::generator::files::{self, Binary, Mix};
 use conformance::generator::random::Random;
 use conformance::library::{Library, INDEPENDENT, PROVED};
 use crestulbino::{Kind, Refusal, Refused, Version, Versions, Window};
@@ -17,21 +17,12 @@ const BOTH: Kind = Kind::Labelled(Versions::OneAndTwo);
 const LABEL: usize = 20;
 
 fn object(version: Version, class: u8, value: &[u8]) -> Vec<u8> {
-    let head = match version {
-        Version::One => b"CCSD1.00DEMO",
-        Version::Two => b"CCSD2.00DEMO",
+    let length = value.len();
+    let (byte, field) = match version {
+        Version::One => (b'1', format!("{length:08}").into_bytes()),
+        Version::Two => (b'2', (length as u64).to_be_bytes().to_vec()),
     };
-    let mut label = vec![0; LABEL];
-    let written = (PROVED.write_label)(version, &with_class(head, class), value.len(), &mut label);
-    assert_eq!(written, Ok(LABEL));
-    label.extend(value);
-    label
-}
-
-fn with_class(head: &[u8; 12], class: u8) -> [u8; 12] {
-    let mut head = *head;
-    head[5] = class;
-    head
+    [b"CCSD", &[byte, class][..], b"00DEMO", &field, value].concat()
 }
 
 /// An object inside of so many groups, of both versions in turn or of version 1 only.
@@ -59,7 +50,7 @@ fn first_row(library: &Library, kind: Kind, file: &[u8]) -> Result<(usize, usize
 #[test]
 fn each_version_at_each_depth() {
     for (library, depth) in LIBRARIES.iter().flat_map(|l| (1..=8).map(move |d| (l, d))) {
-        let (place, value) = ((depth - 1) * LABEL, depth * LABEL);
+        let value = depth * LABEL;
         for version in [Version::One, Version::Two] {
             let leaf = object(version, b'I', b"abc");
             let group = object(version, b'U', b"");
@@ -71,19 +62,24 @@ fn each_version_at_each_depth() {
                 assert_eq!((library.check)(BOTH, &file), Ok(0));
                 assert_eq!(first_row(library, BOTH, &file), refused(Refusal::NoRow, 0));
             }
-            for (object, rows) in [(&leaf, 1), (&group, 0)] {
+            // Version 1 only, with no label of version 2 around.
+            for (object, rows, row) in [
+                (&leaf, 1, Ok((value, 3))),
+                (&group, 0, refused(Refusal::NoRow, 0)),
+            ] {
                 let file = enclosed(object.clone(), depth - 1, false);
-                let expected = match version {
-                    Version::One => Ok(rows),
-                    Version::Two => refused(Refusal::BadLabel, place),
+                let is_allowed = version == Version::One;
+                let expected = if is_allowed {
+                    (Ok(rows), row)
+                } else {
+                    let place = (depth - 1) * LABEL;
+                    (
+                        refused(Refusal::BadLabel, place),
+                        refused(Refusal::BadLabel, place),
+                    )
                 };
-                assert_eq!((library.check)(ONE, &file), expected);
-                let row = first_row(library, ONE, &file).map(|_| rows);
-                let nothing = expected.and_then(|rows| match rows {
-                    0 => refused(Refusal::NoRow, 0),
-                    rows => Ok(rows),
-                });
-                assert_eq!(row, nothing);
+                let rows = (library.check)(ONE, &file);
+                assert_eq!((rows, first_row(library, ONE, &file)), expected);
             }
         }
         // A ninth label, of either version, is too deep.
@@ -94,42 +90,54 @@ fn each_version_at_each_depth() {
     }
 }
 
-#[test]
-fn each_length_at_each_depth() {
-    for (library, depth) in LIBRARIES.iter().flat_map(|l| (1..=8).map(move |d| (l, d))) {
-        let (place, value) = ((depth - 1) * LABEL, depth * LABEL);
-        for binary in files::binaries() {
-            let mut leaf = enclosed(object(Version::Two, b'I', b"abc"), depth - 1, true);
-            let length = binary.of(3, value);
-            leaf[place + 12..value].copy_from_slice(&length.to_be_bytes());
-            let overrun = refused(Refusal::Overrun, place);
-            let expected = if length == 3 { Ok(1) } else { overrun };
-            assert_eq!((library.check)(BOTH, &leaf), expected, "{binary:?}");
-            let row = first_row(library, BOTH, &leaf);
-            assert_eq!(row.map(|_| 1), expected, "{binary:?}");
+/// A file with an object of version 2 inside of so many groups, with this length; and the length.
+fn with_length(object: Vec<u8>, groups: usize, binary: Binary) -> (Vec<u8>, u64) {
+    let (place, value) = (groups * LABEL, (groups + 1) * LABEL);
+    let length = binary.of(object.len() - LABEL, value);
+    let mut file = enclosed(object, groups, true);
+    file[place + 12..value].copy_from_slice(&length.to_be_bytes());
+    (file, length)
+}
 
-            let row = object(Version::One, b'I', b"abc");
-            let inside = if depth == 8 { Vec::new() } else { row.clone() };
-            let rows = usize::from(depth < 8);
-            let inside_length = inside.len();
-            let mut group = enclosed(object(Version::Two, b'Z', &inside), depth - 1, true);
-            let length = binary.of(inside_length, value);
-            group[place + 12..value].copy_from_slice(&length.to_be_bytes());
-            let overrun = refused(Refusal::Overrun, place);
-            let fits = length == inside_length as u64;
-            let expected = if fits { Ok(rows) } else { overrun };
-            assert_eq!((library.check)(BOTH, &group), expected, "{binary:?}");
-            // The walk passes the label, whatever its length says.
-            let expected = match rows {
-                0 => refused(Refusal::NoRow, 0),
-                _ => Ok((value + LABEL, 3)),
+#[test]
+fn each_length_of_a_leaf_at_each_depth() {
+    for (library, groups) in LIBRARIES.iter().flat_map(|l| (0..8).map(move |g| (l, g))) {
+        let (place, value) = (groups * LABEL, (groups + 1) * LABEL);
+        for binary in files::binaries() {
+            let leaf = object(Version::Two, b'I', b"abc");
+            let (file, length) = with_length(leaf, groups, binary);
+            let expected = match length {
+                3 => Ok((value, 3)),
+                _ => refused(Refusal::Overrun, place),
             };
-            assert_eq!(first_row(library, BOTH, &group), expected, "{binary:?}");
+            assert_eq!(first_row(library, BOTH, &file), expected, "{binary:?}");
+            let rows = expected.map(|_| 1);
+            assert_eq!((library.check)(BOTH, &file), rows, "{binary:?}");
         }
     }
 }
 
-/// Where labels of version 1 stand, with lengths that are none too: in values as well.
+/// The check measures a group; the walk passes its label, whatever the length.
+#[test]
+fn each_length_of_a_group_at_each_depth() {
+    for (library, groups) in LIBRARIES.iter().flat_map(|l| (0..7).map(move |g| (l, g))) {
+        let (place, value) = (groups * LABEL, (groups + 1) * LABEL);
+        for binary in files::binaries() {
+            let row = object(Version::One, b'I', b"abc");
+            let group = object(Version::Two, b'Z', &row);
+            let (file, length) = with_length(group, groups, binary);
+            let rows = match length == row.len() as u64 {
+                true => Ok(1),
+                false => refused(Refusal::Overrun, place),
+            };
+            assert_eq!((library.check)(BOTH, &file), rows, "{binary:?}");
+            let row = first_row(library, BOTH, &file);
+            assert_eq!(row, Ok((value + LABEL, 3)), "{binary:?}");
+        }
+    }
+}
+
+/// Where labels of version 1 stand, in values too, and their lengths.
 fn labels_of_version_1(file: &[u8]) -> Vec<(usize, u64)> {
     let read = |place: usize| {
         let label = label::read(label::Versions::First, &file[place..]).ok()?;
