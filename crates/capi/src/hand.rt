@@ -1,16 +1,59 @@
-// How an answer of the library is handed over: its parts through the pointers, and the result by value. On
-// a refusal no pointer is written.
+// How numbers of the boundary become the library's choices, and how an answer of the library is handed
+// over: its parts through the pointers, and the result by value. On a refusal no pointer is written.
 use crate::Result;
 use answer::Count;
 use answer::Refusal;
 use answer::Show;
+use label::Version;
+use label::Versions;
 use vax::Decode;
 ghost use mathlib.Core.Path.{_≡_};
 ghost use Rattle.answer.specs.Refusal.{numberOf};
 ghost use Rattle.answer.specs.Counted.{counted};
 ghost use Rattle.answer.specs.Window.{shown};
+ghost use Rattle.label.specs.Version.{versionNumber};
 ghost use Rattle.vax.specs.Decoded.{decoded};
 ghost use Rattle.capi.specs.Handed.{refusedAs, resultOf, handed};
+ghost use Rattle.capi.specs.Numbers.{choiceOf, numberedVersion, versionRead};
+
+// The version that has a number, or a refusal.
+pub enum Numbered {
+    Is(Version),
+    Refused(Refusal, usize),
+}
+
+// Which versions are allowed, where version 2 is or is not.
+pub fn choice(version_2: bool) -> Versions
+    ensures { λ r. ⌜ r ≡ choiceOf version_2 ⌝ }
+{
+    if version_2 {
+        return Versions::OneAndTwo;
+    }
+    Versions::One
+}
+
+// The version with this number.
+pub fn version_with(number: u8) -> Numbered
+    ensures { λ r. ⌜ versionRead r ≡ numberedVersion number ⌝ }
+{
+    if number == 1 {
+        return Numbered::Is(Version::One);
+    }
+    if number == 2 {
+        return Numbered::Is(Version::Two);
+    }
+    Numbered::Refused(Refusal::BadLabel, 0)
+}
+
+// The number of a version.
+pub fn version_number(version: Version) -> u8
+    ensures { λ r. ⌜ r ≡ versionNumber version ⌝ }
+{
+    match version {
+        Version::One => 1,
+        Version::Two => 2,
+    }
+}
 
 // The result of a call that answered.
 pub const DONE: Result = Result {

@@ -1,11 +1,13 @@
 // The C boundary: one exported function for each call of docs/CONFORMANCE.md, in its order, with
 // `row_from` after the jumps. Renders document 01's "Every refusal carries its number and a place" as
 // the result, by value, and an answer's parts through pointers, which a refused call does not write.
-// What is answered is left to the crates below; the C declarations, and what a C caller owes, are left
-// to the header.
+// A call that reads labels is told by `version_2` whether labels of version 2 are allowed. What is
+// answered is left to the crates below; the C declarations, and what a C caller owes, are left to the
+// header.
 mod hand;
 
 use altimeter::Judgement;
+use hand::Numbered;
 use label::LabelRead;
 use orbit::Open;
 use reader::Kind;
@@ -16,8 +18,8 @@ ghost use mathlib.Core.List.{[]};
 ghost use lib.ListN.{length as size};
 ghost use Rattle.answer.specs.Outcome.{mapped};
 ghost use Rattle.answer.specs.Filled.{filled};
+ghost use Rattle.label.specs.Version.{versionNumber};
 ghost use Rattle.label.specs.Label.{readLabel};
-ghost use Rattle.label_writer.specs.Write.{writeLabel};
 ghost use Rattle.reader.specs.Rows.{checkFile};
 ghost use Rattle.reader.specs.Read.{readRow, jumpRow, rowFrom};
 ghost use Rattle.row_index.specs.Index.{indexOf, builtOf, buildIndex, checkIndex};
@@ -28,6 +30,7 @@ ghost use Rattle.orbit.specs.Opening.{perOrbitOpening};
 ghost use Rattle.altimeter.specs.Verdict.{verdictOf};
 ghost use Rattle.capi.specs.Handed.{resultOf, handed};
 ghost use Rattle.capi.specs.Parts.{fourBytes, sideNumber};
+ghost use Rattle.capi.specs.Numbers.{choiceOf, writeNumbered};
 
 // What every call returns: a refusal's number and its place; 0 and 0 for an answer.
 #[repr(C)]
@@ -40,24 +43,30 @@ pub struct Result {
 #[no_mangle]
 pub extern "C" fn crest_read_label(
     bytes: &[u8],
+    version_2: bool,
     agency: &mut [u8; 4],
+    version: &mut u8,
     class: &mut u8,
     description: &mut [u8; 4],
     length: &mut usize,
     spaces: &mut u8,
 ) -> Result
-    ensures { λ r. ⌜ r ≡ resultOf (readLabel (now (bytes .entry))) ⌝ }
-    ensures { λ _. ⌜ now (agency .exit) ≡ handed (λ l. fourBytes (l .agency)) (readLabel (now (bytes .entry))) (now (agency .entry)) ⌝ }
-    ensures { λ _. ⌜ now (class .exit) ≡ handed (λ l. l .class) (readLabel (now (bytes .entry))) (now (class .entry)) ⌝ }
-    ensures { λ _. ⌜ now (description .exit) ≡ handed (λ l. fourBytes (l .description)) (readLabel (now (bytes .entry))) (now (description .entry)) ⌝ }
-    ensures { λ _. ⌜ now (length .exit) ≡ handed (λ l. l .length) (readLabel (now (bytes .entry))) (now (length .entry)) ⌝ }
-    ensures { λ _. ⌜ now (spaces .exit) ≡ handed (λ l. l .spaces) (readLabel (now (bytes .entry))) (now (spaces .entry)) ⌝ }
+    ensures { λ r. ⌜ r ≡ resultOf (readLabel (choiceOf version_2) (now (bytes .entry))) ⌝ }
+    ensures { λ _. ⌜ now (agency .exit) ≡ handed (λ l. fourBytes (l .agency)) (readLabel (choiceOf version_2) (now (bytes .entry))) (now (agency .entry)) ⌝ }
+    ensures { λ _. ⌜ now (version .exit) ≡ handed (λ l. versionNumber (l .version)) (readLabel (choiceOf version_2) (now (bytes .entry))) (now (version .entry)) ⌝ }
+    ensures { λ _. ⌜ now (class .exit) ≡ handed (λ l. l .class) (readLabel (choiceOf version_2) (now (bytes .entry))) (now (class .entry)) ⌝ }
+    ensures { λ _. ⌜ now (description .exit) ≡ handed (λ l. fourBytes (l .description)) (readLabel (choiceOf version_2) (now (bytes .entry))) (now (description .entry)) ⌝ }
+    ensures { λ _. ⌜ now (length .exit) ≡ handed (λ l. l .length) (readLabel (choiceOf version_2) (now (bytes .entry))) (now (length .entry)) ⌝ }
+    ensures { λ _. ⌜ now (spaces .exit) ≡ handed (λ l. l .spaces) (readLabel (choiceOf version_2) (now (bytes .entry))) (now (spaces .entry)) ⌝ }
 {
-    match label::read_label(bytes) {
+    match label::read_label(hand::choice(version_2), bytes) {
         LabelRead::Is(l) => {
             let by = l.agency;
             let about = l.description;
+            let of = l.version;
+            let number = hand::version_number(of);
             *agency = [by.a, by.b, by.c, by.d];
+            *version = number;
             *class = l.class;
             *description = [about.a, about.b, about.c, about.d];
             *length = l.length;
@@ -68,28 +77,38 @@ pub extern "C" fn crest_read_label(
     }
 }
 
-// Writes the label with bytes 0-11 as lent and this length to the first 20 bytes of `out`.
+// Writes the label of this version with bytes 0-11 as lent and this length to the first 20 bytes of
+// `out`. With a version that is neither 1 nor 2 no byte 4 agrees.
 #[no_mangle]
 pub extern "C" fn crest_write_label(
+    version: u8,
     head: &[u8],
     length: usize,
     out: &mut [u8],
     written: &mut usize,
 ) -> Result
-    ensures { λ r. ⌜ r ≡ resultOf (writeLabel (now (head .entry)) length (size (now (out .entry)))) ⌝ }
-    ensures { λ _. ⌜ now (out .exit) ≡ filled (writeLabel (now (head .entry)) length (size (now (out .entry)))) (now (out .entry)) ⌝ }
-    ensures { λ _. ⌜ now (written .exit) ≡ handed size (writeLabel (now (head .entry)) length (size (now (out .entry)))) (now (written .entry)) ⌝ }
+    ensures { λ r. ⌜ r ≡ resultOf (writeNumbered version (now (head .entry)) length (size (now (out .entry)))) ⌝ }
+    ensures { λ _. ⌜ now (out .exit) ≡ filled (writeNumbered version (now (head .entry)) length (size (now (out .entry)))) (now (out .entry)) ⌝ }
+    ensures { λ _. ⌜ now (written .exit) ≡ handed size (writeNumbered version (now (head .entry)) length (size (now (out .entry)))) (now (written .entry)) ⌝ }
 {
-    hand::count(label_writer::write_label(head, length, out), written)
+    match hand::version_with(version) {
+        Numbered::Is(known) => {
+            hand::count(label_writer::write_label(known, head, length, out), written)
+        }
+        Numbered::Refused(why, place) => hand::refused(why, place),
+    }
 }
 
 // How many rows a labelled file has.
 #[no_mangle]
-pub extern "C" fn crest_check_labelled(file: &[u8], rows: &mut usize) -> Result
-    ensures { λ r. ⌜ r ≡ resultOf (checkFile Kind.Labelled (now (file .entry))) ⌝ }
-    ensures { λ _. ⌜ now (rows .exit) ≡ handed (λ n. n) (checkFile Kind.Labelled (now (file .entry))) (now (rows .entry)) ⌝ }
+pub extern "C" fn crest_check_labelled(file: &[u8], version_2: bool, rows: &mut usize) -> Result
+    ensures { λ r. ⌜ r ≡ resultOf (checkFile (Kind.Labelled (choiceOf version_2)) (now (file .entry))) ⌝ }
+    ensures { λ _. ⌜ now (rows .exit) ≡ handed (λ n. n) (checkFile (Kind.Labelled (choiceOf version_2)) (now (file .entry))) (now (rows .entry)) ⌝ }
 {
-    hand::count(reader::check(Kind::Labelled, file), rows)
+    hand::count(
+        reader::check(Kind::Labelled(hand::choice(version_2)), file),
+        rows,
+    )
 }
 
 // How many rows a waveform file has.
@@ -105,18 +124,25 @@ pub extern "C" fn crest_check_waveform(file: &[u8], rows: &mut usize) -> Result
 #[no_mangle]
 pub extern "C" fn crest_read_row_labelled(
     file: &[u8],
+    version_2: bool,
     row: usize,
     first: usize,
     count: usize,
     place: &mut usize,
     shown: &mut usize,
 ) -> Result
-    ensures { λ r. ⌜ r ≡ resultOf (readRow Kind.Labelled (now (file .entry)) row first count) ⌝ }
-    ensures { λ _. ⌜ now (place .exit) ≡ handed (λ p. p .place) (readRow Kind.Labelled (now (file .entry)) row first count) (now (place .entry)) ⌝ }
-    ensures { λ _. ⌜ now (shown .exit) ≡ handed (λ p. p .count) (readRow Kind.Labelled (now (file .entry)) row first count) (now (shown .entry)) ⌝ }
+    ensures { λ r. ⌜ r ≡ resultOf (readRow (Kind.Labelled (choiceOf version_2)) (now (file .entry)) row first count) ⌝ }
+    ensures { λ _. ⌜ now (place .exit) ≡ handed (λ p. p .place) (readRow (Kind.Labelled (choiceOf version_2)) (now (file .entry)) row first count) (now (place .entry)) ⌝ }
+    ensures { λ _. ⌜ now (shown .exit) ≡ handed (λ p. p .count) (readRow (Kind.Labelled (choiceOf version_2)) (now (file .entry)) row first count) (now (shown .entry)) ⌝ }
 {
     hand::part(
-        reader::read_row(Kind::Labelled, file, row, first, count),
+        reader::read_row(
+            Kind::Labelled(hand::choice(version_2)),
+            file,
+            row,
+            first,
+            count,
+        ),
         place,
         shown,
     )
@@ -147,6 +173,7 @@ pub extern "C" fn crest_read_row_waveform(
 #[no_mangle]
 pub extern "C" fn crest_jump_labelled(
     file: &[u8],
+    version_2: bool,
     list: &[u32],
     row: usize,
     first: usize,
@@ -154,12 +181,19 @@ pub extern "C" fn crest_jump_labelled(
     place: &mut usize,
     shown: &mut usize,
 ) -> Result
-    ensures { λ r. ⌜ r ≡ resultOf (jumpRow Kind.Labelled (now (file .entry)) (now (list .entry)) row first count) ⌝ }
-    ensures { λ _. ⌜ now (place .exit) ≡ handed (λ p. p .place) (jumpRow Kind.Labelled (now (file .entry)) (now (list .entry)) row first count) (now (place .entry)) ⌝ }
-    ensures { λ _. ⌜ now (shown .exit) ≡ handed (λ p. p .count) (jumpRow Kind.Labelled (now (file .entry)) (now (list .entry)) row first count) (now (shown .entry)) ⌝ }
+    ensures { λ r. ⌜ r ≡ resultOf (jumpRow (Kind.Labelled (choiceOf version_2)) (now (file .entry)) (now (list .entry)) row first count) ⌝ }
+    ensures { λ _. ⌜ now (place .exit) ≡ handed (λ p. p .place) (jumpRow (Kind.Labelled (choiceOf version_2)) (now (file .entry)) (now (list .entry)) row first count) (now (place .entry)) ⌝ }
+    ensures { λ _. ⌜ now (shown .exit) ≡ handed (λ p. p .count) (jumpRow (Kind.Labelled (choiceOf version_2)) (now (file .entry)) (now (list .entry)) row first count) (now (shown .entry)) ⌝ }
 {
     hand::part(
-        reader::jump_row(Kind::Labelled, file, list, row, first, count),
+        reader::jump_row(
+            Kind::Labelled(hand::choice(version_2)),
+            file,
+            list,
+            row,
+            first,
+            count,
+        ),
         place,
         shown,
     )
@@ -191,15 +225,20 @@ pub extern "C" fn crest_jump_waveform(
 #[no_mangle]
 pub extern "C" fn crest_row_from_labelled(
     file: &[u8],
+    version_2: bool,
     from: usize,
     place: &mut usize,
     shown: &mut usize,
 ) -> Result
-    ensures { λ r. ⌜ r ≡ resultOf (rowFrom Kind.Labelled (now (file .entry)) from) ⌝ }
-    ensures { λ _. ⌜ now (place .exit) ≡ handed (λ p. p .place) (rowFrom Kind.Labelled (now (file .entry)) from) (now (place .entry)) ⌝ }
-    ensures { λ _. ⌜ now (shown .exit) ≡ handed (λ p. p .count) (rowFrom Kind.Labelled (now (file .entry)) from) (now (shown .entry)) ⌝ }
+    ensures { λ r. ⌜ r ≡ resultOf (rowFrom (Kind.Labelled (choiceOf version_2)) (now (file .entry)) from) ⌝ }
+    ensures { λ _. ⌜ now (place .exit) ≡ handed (λ p. p .place) (rowFrom (Kind.Labelled (choiceOf version_2)) (now (file .entry)) from) (now (place .entry)) ⌝ }
+    ensures { λ _. ⌜ now (shown .exit) ≡ handed (λ p. p .count) (rowFrom (Kind.Labelled (choiceOf version_2)) (now (file .entry)) from) (now (shown .entry)) ⌝ }
 {
-    hand::part(reader::row_from(Kind::Labelled, file, from), place, shown)
+    hand::part(
+        reader::row_from(Kind::Labelled(hand::choice(version_2)), file, from),
+        place,
+        shown,
+    )
 }
 
 // The first row of a waveform file from a place on.
@@ -221,16 +260,17 @@ pub extern "C" fn crest_row_from_waveform(
 #[no_mangle]
 pub extern "C" fn crest_build_index(
     file: &[u8],
+    version_2: bool,
     list: &mut [u32],
     entries: &mut usize,
     rows: &mut usize,
 ) -> Result
-    ensures { λ r. ⌜ r ≡ resultOf (mapped builtOf (buildIndex (now (file .entry)) (size (now (list .entry))))) ⌝ }
-    ensures { λ _. ⌜ now (list .exit) ≡ filled (mapped indexOf (buildIndex (now (file .entry)) (size (now (list .entry))))) (now (list .entry)) ⌝ }
-    ensures { λ _. ⌜ now (entries .exit) ≡ handed (λ b. b .entries) (mapped builtOf (buildIndex (now (file .entry)) (size (now (list .entry))))) (now (entries .entry)) ⌝ }
-    ensures { λ _. ⌜ now (rows .exit) ≡ handed (λ b. b .rows) (mapped builtOf (buildIndex (now (file .entry)) (size (now (list .entry))))) (now (rows .entry)) ⌝ }
+    ensures { λ r. ⌜ r ≡ resultOf (mapped builtOf (buildIndex (choiceOf version_2) (now (file .entry)) (size (now (list .entry))))) ⌝ }
+    ensures { λ _. ⌜ now (list .exit) ≡ filled (mapped indexOf (buildIndex (choiceOf version_2) (now (file .entry)) (size (now (list .entry))))) (now (list .entry)) ⌝ }
+    ensures { λ _. ⌜ now (entries .exit) ≡ handed (λ b. b .entries) (mapped builtOf (buildIndex (choiceOf version_2) (now (file .entry)) (size (now (list .entry))))) (now (entries .entry)) ⌝ }
+    ensures { λ _. ⌜ now (rows .exit) ≡ handed (λ b. b .rows) (mapped builtOf (buildIndex (choiceOf version_2) (now (file .entry)) (size (now (list .entry))))) (now (rows .entry)) ⌝ }
 {
-    match row_index::build_index(file, list) {
+    match row_index::build_index(hand::choice(version_2), file, list) {
         Build::Is(b) => {
             *entries = b.entries;
             *rows = b.rows;
@@ -242,10 +282,10 @@ pub extern "C" fn crest_build_index(
 
 // Whether the whole list is the index of a labelled file.
 #[no_mangle]
-pub extern "C" fn crest_check_index(file: &[u8], list: &[u32]) -> Result
-    ensures { λ r. ⌜ r ≡ resultOf (checkIndex (now (file .entry)) (now (list .entry))) ⌝ }
+pub extern "C" fn crest_check_index(file: &[u8], version_2: bool, list: &[u32]) -> Result
+    ensures { λ r. ⌜ r ≡ resultOf (checkIndex (choiceOf version_2) (now (file .entry)) (now (list .entry))) ⌝ }
 {
-    match row_index::check_index(file, list) {
+    match row_index::check_index(hand::choice(version_2), file, list) {
         Verified::Right => hand::DONE,
         Verified::Refused(why, place) => hand::refused(why, place),
     }

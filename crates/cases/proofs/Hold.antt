@@ -19,17 +19,17 @@ use Rattle.cases.proofs.Row31.{row-31, jump-to-row-31, row-31-at-1024, 
 pub cases-hold : Table
 unfolding readLabel object level objects scan rowsOfFile checkLabelled labelled.findRow findRow buildIndex checkIndex decimalText rowsListed listingOf checkFile readRow jumpRow table odd trailingZeros
 cases-hold = record {
-  empty-is-accepted = refl;
-  empty-has-no-row = λ a c. refl;
-  nineteen-bytes = refl;
-  two-rows = refl;
-  row-0 = refl;
-  row-1 = refl;
+  empty-is-accepted = λ v. refl;
+  empty-has-no-row = λ v a c. refl;
+  nineteen-bytes = λ v. refl;
+  two-rows = λ v. refl;
+  row-0 = λ v. refl;
+  row-1 = λ v. refl;
   its-listing = refl;
-  one-entry = refl;
-  its-index = refl;
-  shorter-outside = refl;
-  longer-inside = refl;
+  one-entry = λ v. refl;
+  its-index = λ v. refl;
+  shorter-outside = λ v. refl;
+  longer-inside = λ v. refl;
   one-byte-short = waveform.one-byte-short;
   no-bytes = refl;
   row-31 = λ f c e. row-31 f e c;

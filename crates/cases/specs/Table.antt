@@ -1,5 +1,6 @@
 -- The cases of document 01 that are marked P, in its order, each over the definitions that the public calls promise. Where a
--- case speaks of every file of some size, so does its line.
+-- case speaks of every file of some size, so does its line; and what it says of a labelled file holds whichever versions of the label
+-- are allowed (document 02, item 11).
 use Prim.Native.Nat.{ℕ, _*_, _≤_}
 use mathlib.Core.Path.{_≡_}
 use mathlib.Core.Bool.{true, false}
@@ -8,6 +9,7 @@ use lib.ListN.{length, replicate}
 use lib.IntN.{pos, negℤ}
 use lib.Ieee.{fin}
 use Rattle.answer.specs.Outcome.{answer, refuse, mapped}
+use Rattle.label.specs.declared.Versions.{Versions}
 use Rattle.sfdu.specs.Check.{rowsOfFile}
 use Rattle.row_index.specs.Index.{indexOf, buildIndex, checkIndex}
 use Rattle.waveform.specs.Sample.{twiceAmplitude}
@@ -21,24 +23,24 @@ use Rattle.cases.specs.Files.{sixtyThree, printed, shorterOutside, longe
 
 pub record Table : Type 0 where
   -- 1: the empty file is accepted with 0 rows; row 0 gives 6
-  pub empty-is-accepted : checkFile Labelled [] ≡ answer 0
-  pub empty-has-no-row : (a c : ℕ) → readRow Labelled [] 0 a c ≡ refuse 6 0
+  pub empty-is-accepted : (v : Versions) → checkFile (Labelled v) [] ≡ answer 0
+  pub empty-has-no-row : (v : Versions) (a c : ℕ) → readRow (Labelled v) [] 0 a c ≡ refuse 6 0
   -- 2: 19 zero bytes as a labelled file give 1 at 0
-  pub nineteen-bytes : checkFile Labelled (replicate 19 0) ≡ refuse 1 0
+  pub nineteen-bytes : (v : Versions) → checkFile (Labelled v) (replicate 19 0) ≡ refuse 1 0
   -- 3: the 63-byte file has rows of 3 and 0 bytes, at 40 and 63, and is listed so; its index is the one entry 20
-  pub two-rows :
-      rowsOfFile sixtyThree
+  pub two-rows : (v : Versions)
+      → rowsOfFile v sixtyThree
       ≡ answer
       (record { label = 20; size = 3; depth = 2; outermost = 0 } ∷ record { label = 43; size = 0; depth = 2; outermost = 0 } ∷ [])
-  pub row-0 : readRow Labelled sixtyThree 0 0 3 ≡ answer (record { place = 40; count = 3 })
-  pub row-1 : readRow Labelled sixtyThree 1 0 0 ≡ answer (record { place = 63; count = 0 })
+  pub row-0 : (v : Versions) → readRow (Labelled v) sixtyThree 0 0 3 ≡ answer (record { place = 40; count = 3 })
+  pub row-1 : (v : Versions) → readRow (Labelled v) sixtyThree 1 0 0 ≡ answer (record { place = 63; count = 0 })
   pub its-listing : listingOf sixtyThree ≡ printed
-  pub one-entry : mapped indexOf (buildIndex sixtyThree 1) ≡ answer (20 ∷ [])
-  pub its-index : checkIndex sixtyThree (20 ∷ []) ≡ answer tt
+  pub one-entry : (v : Versions) → mapped indexOf (buildIndex v sixtyThree 1) ≡ answer (20 ∷ [])
+  pub its-index : (v : Versions) → checkIndex v sixtyThree (20 ∷ []) ≡ answer tt
   -- 4: with outer length 42 it gives 1 at 43
-  pub shorter-outside : checkFile Labelled shorterOutside ≡ refuse 1 43
+  pub shorter-outside : (v : Versions) → checkFile (Labelled v) shorterOutside ≡ refuse 1 43
   -- 5: with first inner length 24 it gives 4 at 20
-  pub longer-inside : checkFile Labelled longerInside ≡ refuse 4 20
+  pub longer-inside : (v : Versions) → checkFile (Labelled v) longerInside ≡ refuse 4 20
   -- 7: a waveform file of 2,079 bytes gives 12; of 0 bytes, 0 rows
   pub one-byte-short : (f : List ℕ) → length f ≡ 2079 → checkFile Waveform f ≡ refuse 12 0
   pub no-bytes : checkFile Waveform [] ≡ answer 0

@@ -1,4 +1,4 @@
--- The length field's rule: exactly the fields of spaces and then digits, one digit at least, are read, and as what they say
+-- The length field's rule in version 1: exactly the fields of spaces and then digits, one digit at least, are read, and as what they say
 -- (`padded-is-read`, `read-is-padded`).
 use Prim.Native.Nat.{ℕ, zero, suc, _<_}
 use native.Mathlib.Omega.{arith}
@@ -12,6 +12,7 @@ use lib.Dec.{eqb}
 use borrow.Author.Tests.{eq-eqb, ne-eqb, eqb-true}
 use Rattle.text.specs.Digits.{decimal}
 use Rattle.text.proofs.Digits.{too-low-is-none, none-is-not-some}
+use Rattle.label.specs.declared.Version.the-variants.{One}
 use Rattle.label.specs.Length.{Length, oneMore, spacesIn, numberIn, after, lengthOf}
 
 pub a-space-counts : (b : ℕ) (bs : List ℕ) → b ≡ 32 → spacesIn (b ∷ bs) ≡ suc (spacesIn bs)
@@ -36,7 +37,7 @@ spaces-in-front zero xs h = h
 spaces-in-front (suc k) xs h = ap suc (spaces-in-front k xs h)
 
 pub padded-is-read : (k : ℕ) (digits : List ℕ) (n : ℕ) → 0 < length digits → decimal 0 digits ≡ some n
-    → lengthOf (replicate k 32 ++ digits) ≡ some (record { bytes = n; spaces = k })
+    → lengthOf One (replicate k 32 ++ digits) ≡ some (record { bytes = n; spaces = k })
 padded-is-read k digits n h e =
     let spaces : spacesIn (replicate k 32 ++ digits) ≡ k = spaces-in-front k digits (no-space-in-digits digits 0 n e) in
     ap (λ (j : ℕ). after j (numberIn (drop j (replicate k 32 ++ digits)))) spaces
@@ -88,7 +89,7 @@ read-behind k xs l e = behind (numberIn xs) refl e
           spaces = ap (λ (m : Length). m .spaces) said;
         }
 
-pub read-is-padded : (field : List ℕ) (l : Length) → lengthOf field ≡ some l → Padded field l
+pub read-is-padded : (field : List ℕ) (l : Length) → lengthOf One field ≡ some l → Padded field l
 read-is-padded field l e =
     let digits = drop (spacesIn field) field in
     let r = read-behind (spacesIn field) digits l e in
@@ -100,7 +101,7 @@ read-is-padded field l e =
     }
 
 -- digits from the field's first byte on are the whole field
-pub digits-alone : (xs : List ℕ) (l : Length) → after 0 (numberIn xs) ≡ some l → lengthOf xs ≡ some l
+pub digits-alone : (xs : List ℕ) (l : Length) → after 0 (numberIn xs) ≡ some l → lengthOf One xs ≡ some l
 digits-alone xs l e =
     let r = read-behind 0 xs l e in
     padded-is-read 0 xs (l .bytes) (r .not-none) (r .number) ∙ ap (λ (k : ℕ). some (record { bytes = l .bytes; spaces = k })) (r .spaces)

@@ -1,5 +1,5 @@
 -- Bytes 0-11 of a label (document 01, the table of "The label": bytes 0-3 the agency, 4 the version, 5 the class,
--- 6-7 `00`, 8-11 the description). Characters are ASCII: `A` is 65, `Z` 90, `0` 48, `1` 49.
+-- 6-7 `00`, 8-11 the description; document 02, item 11: "its byte 4 must agree"). Characters are ASCII: `A` is 65, `Z` 90, `0` 48.
 use Prim.Native.Nat.{ℕ, _+_}
 use mathlib.Core.Bool.{Bool, _&&_, _||_}
 use mathlib.Core.List.{List}
@@ -7,6 +7,8 @@ use lib.ListN.{length, getD}
 use lib.Dec.{leb, eqb}
 use Rattle.text.specs.Digits.{isDigit}
 use Rattle.label.specs.declared.Four.{Four}
+use Rattle.label.specs.declared.Version.{Version}
+use Rattle.label.specs.Version.{versionByte}
 
 -- how many bytes a label has, and how many of them stand before its length field
 abbrev pub labelSize : ℕ
@@ -37,14 +39,14 @@ isDescription f =
     (isCapital (f .a) || isDigit (f .a)) && (isCapital (f .b) || isDigit (f .b))
     && ((isCapital (f .c) || isDigit (f .c)) && (isCapital (f .d) || isDigit (f .d)))
 
--- bytes 4 to 7: `1`, the class, `00`
-abbrev pub isForm : Four → Bool
-isForm f = eqb (f .a) 49 && isCapital (f .b) && (eqb (f .c) 48 && eqb (f .d) 48)
+-- bytes 4 to 7: the version, the class, `00`
+abbrev pub isForm : Version → Four → Bool
+isForm version f = eqb (f .a) (versionByte version) && isCapital (f .b) && (eqb (f .c) 48 && eqb (f .d) 48)
 
--- bytes 0-11 are as the table says
-abbrev pub headGood : List ℕ → Bool
-headGood s = isAgency (fourAt s 0) && (isForm (fourAt s 4) && isDescription (fourAt s 8))
+-- bytes 0-11 are as the table says, in a label of this version
+abbrev pub headGood : Version → List ℕ → Bool
+headGood version s = isAgency (fourAt s 0) && (isForm version (fourAt s 4) && isDescription (fourAt s 8))
 
--- these are bytes 0-11 of a label ("a count other than twelve is 2")
-abbrev pub isHead : List ℕ → Bool
-isHead head = eqb (length head) headSize && headGood head
+-- these are bytes 0-11 of a label of this version ("a count other than twelve is 2")
+abbrev pub isHead : Version → List ℕ → Bool
+isHead version head = eqb (length head) headSize && headGood version head

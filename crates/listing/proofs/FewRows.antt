@@ -4,13 +4,14 @@ use native.Mathlib.Omega.{arith}
 use mathlib.Core.Path.{_≡_, ap}
 use mathlib.Core.List.{List, _++_}
 use lib.ListN.{length, length-append}
+use Rattle.label.specs.declared.Versions.the-variants.{One}
 use Rattle.answer.specs.Outcome.{answer}
 use Rattle.sfdu.specs.Row.{Row}
 use Rattle.sfdu.specs.Scan.{scan}
 use Rattle.sfdu.specs.Forest.{Forest, done, leaf, group, encode, Valid, leaves}
 use Rattle.sfdu.proofs.Exact.{forestOfFile, accepted-divides}
 
-twenty-each : (left depth : ℕ) (outermost : ℕ → ℕ) (F : Forest) → Valid left F → (at : ℕ) → length (leaves depth outermost at F) * 20 ≤ length (encode F)
+twenty-each : (left depth : ℕ) (outermost : ℕ → ℕ) (F : Forest) → Valid One left F → (at : ℕ) → length (leaves depth outermost at F) * 20 ≤ length (encode F)
 twenty-each left depth outermost done v at = omega arith
 twenty-each zero depth outermost (leaf label value rest) v at = absurd v
 twenty-each zero depth outermost (group label inner rest) v at = absurd v
@@ -33,7 +34,7 @@ twenty-each (suc left) depth outermost (group label inner rest) v at =
       twenty-each (suc left) depth outermost rest (v .2) (at + (20 + length (encode inner))),
     )
 
-pub few-rows : (f : List ℕ) (rows : List Row) → scan f ≡ answer rows → length rows * 20 ≤ length f
+pub few-rows : (f : List ℕ) (rows : List Row) → scan One f ≡ answer rows → length rows * 20 ≤ length f
 few-rows f rows e =
-    let d = accepted-divides f rows e in
-    omega (arith, ap length (d .rows-are), ap length (d .bytes), twenty-each 8 1 (λ at. at) (forestOfFile f) (d .valid) 0)
+    let d = accepted-divides One f rows e in
+    omega (arith, ap length (d .rows-are), ap length (d .bytes), twenty-each 8 1 (λ at. at) (forestOfFile One f) (d .valid) 0)

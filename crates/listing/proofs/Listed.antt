@@ -11,6 +11,7 @@ use borrow.Author.Tests.{le-leb, lt-leb, leb-true}
 use Rattle.answer.specs.Outcome.{Outcome, answer, refuse}
 use Rattle.answer.specs.Size.{largestFile}
 use Rattle.answer.proofs.Outcomes.{passed}
+use Rattle.label.specs.declared.Versions.the-variants.{One}
 use Rattle.label.specs.declared.Four.{Four}
 use Rattle.walk.specs.declared.Leaf.{Leaf}
 use Rattle.sfdu.specs.Row.{Row, valueAt}
@@ -29,11 +30,11 @@ pub too-big-to-list : (f : List ℕ) → 65536 < length f → rowsListed f ≡ r
 unfolding rowsListed
 too-big-to-list f h = rw (lt-leb (length f) 65536 h)
 
-pub small-enough : (f : List ℕ) → length f ≤ 65536 → rowsListed f ≡ rowsOfFile f
+pub small-enough : (f : List ℕ) → length f ≤ 65536 → rowsListed f ≡ rowsOfFile One f
 unfolding rowsListed
 small-enough f h = rw (le-leb (length f) 65536 h)
 
-pub check-is-the-count : (f : List ℕ) → length f ≤ 65536 → checkLabelled f ≡ counting (rowsListed f)
+pub check-is-the-count : (f : List ℕ) → length f ≤ 65536 → checkLabelled One f ≡ counting (rowsListed f)
 unfolding checkLabelled
 check-is-the-count f h = ap counting (sym (small-enough f h))
 
@@ -41,14 +42,14 @@ check-is-the-count f h = ap counting (sym (small-enough f h))
 pub record Small (f : List ℕ) (rows : List Row) : Type 0 where
   pub small : length f ≤ 65536
   pub no-larger : length f ≤ largestFile
-  pub scanned : scan f ≡ answer rows
+  pub scanned : scan One f ≡ answer rows
   pub few : length rows * 20 ≤ 65536
 
 pub listed-is-small : (f : List ℕ) (rows : List Row) → rowsListed f ≡ answer rows → Small f rows
 unfolding rowsListed
 listed-is-small f rows e =
-    let (small, is) = passed 0 (leb (length f) 65536) 14 (rowsOfFile f) rows e in
-    let scanned = accepted-says f rows is .1 in
+    let (small, is) = passed 0 (leb (length f) 65536) 14 (rowsOfFile One f) rows e in
+    let scanned = accepted-says One f rows is .1 in
     let bound : length f ≤ 65536 = leb-true _ _ small in
     record { small = bound; no-larger = omega arith; scanned = scanned; few = omega (arith, bound, few-rows f rows scanned) }
 

@@ -11,11 +11,12 @@ use Rattle.answer.specs.Outcome.{Outcome, answer, andThen}
 use Rattle.answer.specs.Size.{largestFile}
 use Rattle.answer.specs.declared.Part.{Part}
 use Rattle.answer.proofs.Outcomes.{first-answered, answer-injective}
+use Rattle.label.specs.declared.Versions.the-variants.{One}
 use Rattle.label.specs.declared.Label.{Label}
 use Rattle.label.specs.Head.{fourAt}
 use Rattle.label.specs.Length.{fieldSize, spacesIn, spacesAt}
 use Rattle.label.specs.Label.{readLabel}
-use Rattle.label.proofs.Read.{read-says}
+use Rattle.label.proofs.Read.{read-says, version-is-allowed, only-one-is-one, ReadDigits, digits-say}
 use Rattle.walk.specs.declared.Leaf.{Leaf}
 use Rattle.sfdu.specs.Row.{Row, valueAt, valueOf}
 use Rattle.sfdu.specs.Scan.{scan}
@@ -39,11 +40,11 @@ pub record FindsRow (f : List ℕ) (o : Outcome Leaf) (r : Row) : Type 0 where
 -- the walk came to the first of these rows, and walking on from its end to the next, and so on
 abbrev pub Finds : List ℕ → Outcome Leaf → List Row → Type 0
 Finds f o [] = Unit
-Finds f o (r ∷ rs) = FindsRow f o r × Finds f (walkFrom f (valueAt r + r .size) 0) rs
+Finds f o (r ∷ rs) = FindsRow f o r × Finds f (walkFrom One f (valueAt r + r .size) 0) rs
 
 -- the description of a label at a place of a file is bytes 8-11 there
-description-there : (f : List ℕ) (at : ℕ) (l : Label) → readLabel (drop at f) ≡ answer l → l .description ≡ fourAt f (at + 8)
-description-there f at l e = sym (ap (λ (m : Label). m .description) (read-says (drop at f) l e .fields)) ∙ four
+description-there : (f : List ℕ) (at : ℕ) (l : Label) → readLabel One (drop at f) ≡ answer l → l .description ≡ fourAt f (at + 8)
+description-there f at l e = sym (ap (λ (m : Label). m .description) (read-says One (drop at f) l e .fields)) ∙ four
   where
     byte : (i p : ℕ) → i < 12 → at + i ≡ p → getD (take 12 (drop at f)) i 0 ≡ getD f p 0
     byte i p h e = getD-take 12 (drop at f) i 0 h ∙ getD-drop at f i 0 ∙ ap (λ (k : ℕ). getD f k 0) e
@@ -57,22 +58,26 @@ description-there f at l e = sym (ap (λ (m : Label). m .description) (read-says
           byte 11 (at + 8 + 3) (omega arith) (omega arith),
         )
 
+-- a label that is listed is of version 1, so that its length is in digits
+digits-there : (f : List ℕ) (at : ℕ) (l : Label) → readLabel One (drop at f) ≡ answer l → ReadDigits (drop at f) l
+digits-there f at l e = digits-say (drop at f) l (read-says One (drop at f) l e) (only-one-is-one (l .version) (version-is-allowed One (drop at f) l e))
+
 -- its spaces are those of bytes 12-19 there
-spaces-there : (f : List ℕ) (at : ℕ) (l : Label) → readLabel (drop at f) ≡ answer l → l .spaces ≡ spacesAt f at
+spaces-there : (f : List ℕ) (at : ℕ) (l : Label) → readLabel One (drop at f) ≡ answer l → l .spaces ≡ spacesAt f at
 spaces-there f at l e =
-    read-says (drop at f) l e .spaces ∙ ap (λ (s : List ℕ). spacesIn (take fieldSize s)) (drop-drop 12 at f)
+    digits-there f at l e .spaces ∙ ap (λ (s : List ℕ). spacesIn (take fieldSize s)) (drop-drop 12 at f)
 
 -- where walks for k leaves and more find these rows, the walk for k leaves comes to the first, and so on
 module _ (f : List ℕ) (small : length f ≤ largestFile) where
-  finds-from : (rs : List Row) (from k : ℕ) → walkFrom f from 0 ≡ walkAt f 0 k
-      → ((j : ℕ) → andThen (walkAt f 0 (k + j)) valueAtLeaf ≡ nthRow rs j) → Finds f (walkFrom f from 0) rs
+  finds-from : (rs : List Row) (from k : ℕ) → walkFrom One f from 0 ≡ walkAt One f 0 k
+      → ((j : ℕ) → andThen (walkAt One f 0 (k + j)) valueAtLeaf ≡ nthRow rs j) → Finds f (walkFrom One f from 0) rs
   finds-from [] from k here rows = tt
   finds-from (r ∷ rs) from k here rows =
-      let (x, walked, value) = first-answered (walkAt f 0 k) valueAtLeaf (valueOf r) (ap (λ (j : ℕ). andThen (walkAt f 0 j) valueAtLeaf) (sym (add-zero k)) ∙ rows 0) in
+      let (x, walked, value) = first-answered (walkAt One f 0 k) valueAtLeaf (valueOf r) (ap (λ (j : ℕ). andThen (walkAt One f 0 j) valueAtLeaf) (sym (add-zero k)) ∙ rows 0) in
       let place : x .place ≡ r .label = omega (arith, ap (λ (v : Part). v .place) (answer-injective value)) in
       let size : x .label .length ≡ r .size = ap (λ (v : Part). v .count) (answer-injective value) in
-      let inside = found-ends-inside f 0 k x walked in
-      let read = a-leaf-is-found f 0 k x walked .reads in
+      let inside = found-ends-inside One f 0 k x walked in
+      let read = a-leaf-is-found One f 0 k x walked .reads in
       let end : valueAt r + r .size ≡ behind x = omega (arith, place, size) in (
         record {
           leaf = x;
@@ -81,16 +86,16 @@ module _ (f : List ℕ) (small : length f ≤ largestFile) where
           size = size;
           description = description-there f (x .place) (x .label) read ∙ ap (λ (p : ℕ). fourAt f (p + 8)) place;
           spaces = spaces-there f (x .place) (x .label) read ∙ ap (spacesAt f) place;
-          few = read-says (drop (x .place) f) (x .label) read .few;
+          few = digits-there f (x .place) (x .label) read .few;
           inside = omega (arith, end, inside);
         },
         finds-from rs (valueAt r + r .size) (k + 1)
-            (ap (λ (p : ℕ). walkFrom f p 0) end ∙ walks-on f k x small walked)
-            (λ j. ap (λ (m : ℕ). andThen (walkAt f 0 m) valueAtLeaf) {x = k + 1 + j} {y = k + suc j} (omega arith) ∙ rows (suc j)),
+            (ap (λ (p : ℕ). walkFrom One f p 0) end ∙ walks-on One f k x small walked)
+            (λ j. ap (λ (m : ℕ). andThen (walkAt One f 0 m) valueAtLeaf) {x = k + 1 + j} {y = k + suc j} (omega arith) ∙ rows (suc j)),
       )
 
   -- the theorem: from the first byte of an accepted file, row after row
-  pub finds-rows : (rows : List Row) → scan f ≡ answer rows → Finds f (walkFrom f 0 0) rows
+  pub finds-rows : (rows : List Row) → scan One f ≡ answer rows → Finds f (walkFrom One f 0 0) rows
   finds-rows rows e =
-      finds-from rows 0 0 (place-inside f 0 0 small (omega arith))
-      (λ j. ap (λ (k : ℕ). andThen (walkAt f 0 k) valueAtLeaf) {x = 0 + j} {y = j} (omega arith) ∙ walk-reads-rows f rows e j)
+      finds-from rows 0 0 (place-inside One f 0 0 small (omega arith))
+      (λ j. ap (λ (k : ℕ). andThen (walkAt One f 0 k) valueAtLeaf) {x = 0 + j} {y = j} (omega arith) ∙ walk-reads-rows One f rows e j)

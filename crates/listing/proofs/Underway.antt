@@ -7,6 +7,7 @@ use mathlib.Core.List.{List, [], _∷_, _++_, append-assoc, append-nil}
 use lib.ListN.{length, take, length-append, take-append-drop}
 use Rattle.answer.specs.Outcome.{answer, refuse}
 use Rattle.answer.proofs.Outcomes.{mapped-answer, answer-injective, answer-is-no-refusal}
+use Rattle.label.specs.declared.Versions.the-variants.{One}
 use Rattle.label.specs.Head.{fourAt}
 use Rattle.label.specs.Length.{spacesAt}
 use Rattle.walk.specs.declared.Leaf.{Leaf}
@@ -29,7 +30,7 @@ pub record Underway (f old : List ℕ) (rows at : ℕ) (out : List ℕ) (end fro
   pub put : Puts at (linesFrom f 0 listed) old end out
   pub short : end ≤ at + 24 * number
   pub as-long : length out ≡ length old
-  pub onward : Finds f (walkFrom f from 0) rest
+  pub onward : Finds f (walkFrom One f from 0) rest
 
 pub sets-out : (f old : List ℕ) (rows at : ℕ) → counting (rowsListed f) ≡ answer rows → Underway f old rows at old at 0 0
 sets-out f old rows at e =
@@ -61,8 +62,8 @@ module _ {f old : List ℕ} {rows at : ℕ} {out : List ℕ} {end from number : 
       pub row : Row
       pub others : List Row
       pub is : u .rest ≡ row ∷ others
-      pub finds : FindsRow f (walkFrom f from 0) row
-      pub then : Finds f (walkFrom f (valueAt row + row .size) 0) others
+      pub finds : FindsRow f (walkFrom One f from 0) row
+      pub then : Finds f (walkFrom One f (valueAt row + row .size) 0) others
 
     next-row : Next
     next-row = next (u .rest) refl
@@ -70,16 +71,16 @@ module _ {f old : List ℕ} {rows at : ℕ} {out : List ℕ} {end from number : 
         next : (rs : List Row) → u .rest ≡ rs → Next
         next [] e = absurd (omega (arith, u .total, u .so-many, length-append (u .listed) (u .rest), ap length e, more))
         next (r ∷ rs) e =
-            let found : Finds f (walkFrom f from 0) (r ∷ rs) = subst (Finds f (walkFrom f from 0)) e (u .onward) in
+            let found : Finds f (walkFrom One f from 0) (r ∷ rs) = subst (Finds f (walkFrom One f from 0)) e (u .onward) in
             record { row = r; others = rs; is = e; finds = found .0; then = found .1 }
 
-    pub never-refused : (n p : ℕ) → walkFrom f from 0 ≡ refuse n p → ⊥
+    pub never-refused : (n p : ℕ) → walkFrom One f from 0 ≡ refuse n p → ⊥
     never-refused n p e = answer-is-no-refusal (sym (next-row .finds .found) ∙ e)
 
 -- a turn that came to a leaf
 pub record Comes {f old : List ℕ} {rows at : ℕ} {out : List ℕ} {end from number : ℕ} (u : Underway f old rows at out end from number) (leaf : Leaf) : Type 0 where
   pub more : number < rows
-  pub walked : walkFrom f from 0 ≡ answer leaf
+  pub walked : walkFrom One f from 0 ≡ answer leaf
 
 module _ {f old : List ℕ} {rows at : ℕ} {out : List ℕ} {end from number : ℕ} {u : Underway f old rows at out end from number} {leaf : Leaf} (m : Comes u leaf) where
   next : Next u (m .more)
@@ -89,14 +90,14 @@ module _ {f old : List ℕ} {rows at : ℕ} {out : List ℕ} {end from number : 
   rows-are-few = listed-is-small f (u .listed ++ u .rest) (u .accepted)
 
   -- the leaf that the walk came to is the next row
-  finds : FindsRow f (walkFrom f from 0) (next .row)
+  finds : FindsRow f (walkFrom One f from 0) (next .row)
   finds = next .finds
 
   same-leaf : finds .leaf ≡ leaf
   same-leaf = answer-injective (sym (finds .found) ∙ m .walked)
 
   line-is : leafText number leaf ≡ lineOf f number (next .row)
-  line-is = ap (leafText number) (sym same-leaf) ∙ same-line f (walkFrom f from 0) (next .row) number finds
+  line-is = ap (leafText number) (sym same-leaf) ∙ same-line f (walkFrom One f from 0) (next .row) number finds
 
   end-is : leaf .place + 20 + leaf .label .length ≡ valueAt (next .row) + next .row .size
   end-is =
@@ -146,5 +147,5 @@ module _ {f old : List ℕ} {rows at : ℕ} {out : List ℕ} {end from number : 
         put = subst (λ (t : List ℕ). Puts at t old last new) lines (puts-on h (u .put) p);
         short = omega (arith, p .ends, u .short, line-has-24);
         as-long = same ∙ u .as-long;
-        onward = subst (λ (k : ℕ). Finds f (walkFrom f k 0) (next .others)) (sym end-is) (next .then);
+        onward = subst (λ (k : ℕ). Finds f (walkFrom One f k 0) (next .others)) (sym end-is) (next .then);
       }

@@ -1,11 +1,13 @@
 -- The listing of a whole file as one text (document 01, "The list program": "It reads a labelled file of at most 65,536 bytes
--- from standard input; more gives refusal 14. It prints `rows N`, then for each row .. A refusal prints .. alone").
+-- from standard input; more gives refusal 14. It prints `rows N`, then for each row .. A refusal prints .. alone"; document 02, item
+-- 11: "The list program allows version 1 only").
 use Prim.Native.Nat.{ℕ, suc, _+_, _≤_}
 use mathlib.Core.Path.{_≡_}
 use mathlib.Core.List.{List, [], _∷_, _++_}
 use lib.ListN.{length, take}
 use lib.Dec.{leb}
 use Rattle.answer.specs.Outcome.{Outcome, answer, refuse, need}
+use Rattle.label.specs.declared.Versions.the-variants.{One}
 use Rattle.label.specs.Head.{fourAt}
 use Rattle.label.specs.Length.{spacesAt}
 use Rattle.sfdu.specs.Row.{Row, valueAt}
@@ -18,7 +20,7 @@ largestListed = 65536
 
 -- the rows of a file that is listed: 14, then the faults of the file
 unfoldable pub rowsListed : List ℕ → Outcome (List Row)
-rowsListed f = need (leb (length f) largestListed) 14 (rowsOfFile f)
+rowsListed f = need (leb (length f) largestListed) 14 (rowsOfFile One f)
 
 -- a row's line: the place of its value, its length, and of its label the description, bytes 8-11, and the spaces
 abbrev pub lineOf : List ℕ → ℕ → Row → List ℕ

@@ -1,9 +1,11 @@
 // The listing of a labelled file as one text. Renders document 01, "The list program", with the last
 // column of document 02, item 2: `rows N` and a line for each row, or `refused NUMBER PLACE` alone.
-// Reading the file and printing the text are left to the programs above.
+// Version 1 of the label alone is allowed (item 11). Reading the file and printing the text are left to
+// the programs above.
 use answer::Count;
 use answer::Refusal;
 use label::Four;
+use label::Versions;
 use walk::Leaf;
 use walk::Walked;
 ghost use mathlib.Core.Path.{_≡_};
@@ -115,7 +117,7 @@ fn check_listed(file: &[u8]) -> Count
     if LARGEST_LISTED < file.len() {
         return Count::Refused(Refusal::TooBig, 0);
     }
-    sfdu::check(file)
+    sfdu::check(Versions::One, file)
 }
 
 // Puts a line at place `at` of `out` and answers where it ends.
@@ -141,7 +143,7 @@ fn put_rows(file: &[u8], rows: usize, out: &mut [u8], at: usize) -> usize
     let mut from: usize = 0;
     let mut number: usize = 0;
     while number < rows {
-        match walk::walk_from(file, from, 0) {
+        match walk::walk_from(Versions::One, file, from, 0) {
             Walked::Is(leaf) => {
                 end = put(row_line(number, leaf), out, end);
                 let l = leaf.label;

@@ -10,6 +10,7 @@ use Rattle.answer.specs.Size.{largestFile}
 use Rattle.answer.specs.Window.{bytesAt}
 use Rattle.answer.specs.declared.Part.{Part}
 use Rattle.answer.proofs.Outcomes.{mapped-answer}
+use Rattle.label.specs.declared.Versions.{Versions}
 use Rattle.sfdu.specs.Row.{Row, valueOf}
 use Rattle.sfdu.specs.Forest.{Forest, leaves}
 use Rattle.sfdu.specs.Check.{rowsOfFile, checkLabelled}
@@ -25,22 +26,22 @@ use Rattle.reader.specs.Demand2.{Division, rowsIn, Divides, Demand2}
 
 -- ---- labelled files
 
-module _ (f : List ℕ) where
+module _ (v : Versions) (f : List ℕ) where
   -- a forest that divides the file, as the grammar says it
-  by-grammar : (F : Forest) → Divides Labelled f F → DividesFile f (leaves 1 (λ at. at) 0 F) F
+  by-grammar : (F : Forest) → Divides (Labelled v) f F → DividesFile v f (leaves 1 (λ at. at) 0 F) F
   by-grammar F d = record { bytes = d .bytes; valid = d .sound; rows-are = refl }
 
   labelled-exactly : (rows : List Part)
-      → (rowParts Labelled f ≡ answer rows) ↔ ((length f ≤ largestFile) × ((F : Forest) × Divides Labelled f F × (rowsIn Labelled F ≡ rows)))
+      → (rowParts (Labelled v) f ≡ answer rows) ↔ ((length f ≤ largestFile) × ((F : Forest) × Divides (Labelled v) f F × (rowsIn (Labelled v) F ≡ rows)))
   unfolding rowParts
   labelled-exactly rows = (
     (λ e.
-        let (rs, found, is) = mapped-answer (map valueOf) (rowsOfFile f) rows e in
-        let (small, (F, d)) = accepted-exactly f rs .0 found in
+        let (rs, found, is) = mapped-answer (map valueOf) (rowsOfFile v f) rows e in
+        let (small, (F, d)) = accepted-exactly v f rs .0 found in
         (small, (F, record { bytes = d .bytes; sound = d .valid }, ap (map valueOf) (d .rows-are) ∙ is))),
     (λ q.
         let (F, d, is) = q .1 in
-        ap (mapped (map valueOf)) (accepted-exactly f (leaves 1 (λ at. at) 0 F) .1 (q .0, (F, by-grammar F d))) ∙ ap answer is),
+        ap (mapped (map valueOf)) (accepted-exactly v f (leaves 1 (λ at. at) 0 F) .1 (q .0, (F, by-grammar F d))) ∙ ap answer is),
   )
 
 map-of-map : (f : List ℕ) (rows : List Row) → map (λ (p : Part). bytesAt f (p .place) (p .count)) (map valueOf rows) ≡ map (rowBytes f) rows
@@ -99,12 +100,12 @@ accepted-exactly-from kind f rows-are counts n = (
 
 pub demand-2 : (kind : Kind) (f : List ℕ) → Demand2 kind f
 unfolding checkFile checkLabelled rowParts
-demand-2 Labelled f = record {
-  accepted = accepted-exactly-from Labelled f (labelled-exactly f) (labelled-counts (rowsOfFile f));
-  rows-are = labelled-exactly f;
-  counts = labelled-counts (rowsOfFile f);
-  only-one = λ F G d e. only-one-forest F G (d .sound) (e .sound) (d .bytes ∙ sym (e .bytes));
-  values-are = λ F d. map-of-map f (leaves 1 (λ at. at) 0 F) ∙ bytes-are-values f (leaves 1 (λ at. at) 0 F) F (by-grammar f F d);
+demand-2 (Labelled v) f = record {
+  accepted = accepted-exactly-from (Labelled v) f (labelled-exactly v f) (labelled-counts (rowsOfFile v f));
+  rows-are = labelled-exactly v f;
+  counts = labelled-counts (rowsOfFile v f);
+  only-one = λ F G d e. only-one-forest v F G (d .sound) (e .sound) (d .bytes ∙ sym (e .bytes));
+  values-are = λ F d. map-of-map f (leaves 1 (λ at. at) 0 F) ∙ bytes-are-values v f (leaves 1 (λ at. at) 0 F) F (by-grammar v f F d);
 }
 demand-2 Waveform f = record {
   accepted = accepted-exactly-from Waveform f (waveform-exactly f) (waveform-counts (rowCount f));

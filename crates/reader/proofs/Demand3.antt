@@ -27,9 +27,9 @@ use Rattle.reader.proofs.Rows.{reads-the-rows}
 -- the two ways come to the same row
 same-row : (kind : Kind) (f xs : List ℕ) → Supposed kind f xs → (k : ℕ) → jumpTo kind f xs k ≡ findRow kind f k
 unfolding findRow jumpTo
-same-row Labelled f xs (n, checked, index) k =
-    let (rows, accepted, is) = index-check-is-exact f xs .0 index in
-    ap (λ (ys : List ℕ). labelled-jump.jumpTo f ys k) is ∙ labelled.jump-is-read f rows accepted k
+same-row (Labelled v) f xs (n, checked, index) k =
+    let (rows, accepted, is) = index-check-is-exact v f xs .0 index in
+    ap (λ (ys : List ℕ). labelled-jump.jumpTo v f ys k) is ∙ labelled.jump-is-read v f rows accepted k
 same-row Waveform f xs h k = waveform.jump-is-read f k
 
 -- the window of demand 2's row

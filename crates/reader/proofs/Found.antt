@@ -8,6 +8,7 @@ use Rattle.answer.specs.Outcome.{answer, andThen}
 use Rattle.answer.specs.Size.{largestFile}
 use Rattle.answer.specs.declared.Part.{Part}
 use Rattle.answer.proofs.Outcomes.{first-answered, answer-injective, passed}
+use Rattle.label.specs.declared.Versions.{Versions}
 use Rattle.sfdu.specs.Check.{rowsOfFile}
 use Rattle.walk.specs.Walk.{walkFrom}
 use Rattle.walk.specs.Find as labelled
@@ -22,25 +23,25 @@ use Rattle.reader.specs.declared.Kind.the-variants.{Labelled, Waveform}
 use Rattle.reader.specs.Read.{findRow, jumpTo}
 
 -- the value that a walk came to ends inside the file
-walked-inside : (f : List ℕ) (from k : ℕ) (p : Part) → andThen (walkFrom f from k) labelled.valueAtLeaf ≡ answer p → p .place + p .count ≤ length f
-walked-inside f from k p e =
-    let q = first-answered (walkFrom f from k) labelled.valueAtLeaf p e in
-    let h = found-ends-inside f from k (q .0) (walk-from-inside f from k (q .0) (q .1)) in
+walked-inside : (v : Versions) (f : List ℕ) (from k : ℕ) (p : Part) → andThen (walkFrom v f from k) labelled.valueAtLeaf ≡ answer p → p .place + p .count ≤ length f
+walked-inside v f from k p e =
+    let q = first-answered (walkFrom v f from k) labelled.valueAtLeaf p e in
+    let h = found-ends-inside v f from k (q .0) (walk-from-inside v f from k (q .0) (q .1)) in
     subst (λ (r : Part). r .place + r .count ≤ length f) (answer-injective (q .2)) h
 
 -- a row that reading found
 pub row-inside : (kind : Kind) (f : List ℕ) (k : ℕ) (p : Part) → findRow kind f k ≡ answer p → p .place + p .count ≤ length f
 unfolding findRow labelled.findRow
-row-inside Labelled f k p e =
-    let q = first-answered (rowsOfFile f) (λ rows. labelled.nthRow rows k) p e in
-    walked-inside f 0 k p (walk-finds-the-row f (q .0) (q .1) k ∙ q .2)
+row-inside (Labelled v) f k p e =
+    let q = first-answered (rowsOfFile v f) (λ rows. labelled.nthRow rows k) p e in
+    walked-inside v f 0 k p (walk-finds-the-row v f (q .0) (q .1) k ∙ q .2)
 row-inside Waveform f k p e = waveform.row-inside f k p e
 
 -- and one that the jump came to, by any list
 pub jumped-inside : (kind : Kind) (f xs : List ℕ) (k : ℕ) (p : Part) → jumpTo kind f xs k ≡ answer p → p .place + p .count ≤ length f
 unfolding jumpTo labelled-jump.jumpTo
-jumped-inside Labelled f xs k p e =
+jumped-inside (Labelled v) f xs k p e =
     let q = passed 0 (leb (length f) largestFile) 14 _ p e .1 in
     let r = first-answered (entryFor f xs k) _ p q in
-    walked-inside f (r .0) _ p (r .2)
+    walked-inside v f (r .0) _ p (r .2)
 jumped-inside Waveform f xs k p e = waveform.row-inside f k p (sym (waveform-jump.jump-is-read f k) ∙ e)

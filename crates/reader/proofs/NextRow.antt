@@ -34,11 +34,11 @@ record GoesOnReading (kind : Kind) (f : List ℕ) : Type 0 where
 
 reading : (kind : Kind) (f : List ℕ) (parts : List Part) → rowParts kind f ≡ answer parts → GoesOnReading kind f
 unfolding rowParts rowFrom findRow
-reading Labelled f parts e =
-    let (rows, accepted, is) = mapped-answer (map valueOf) (rowsOfFile f) parts e in
+reading (Labelled v) f parts e =
+    let (rows, accepted, is) = mapped-answer (map valueOf) (rowsOfFile v f) parts e in
     record {
-      first = walk-finds-the-row f rows accepted 0 ∙ sym (reads-the-row f rows accepted 0);
-      next = λ k row found. next-row-found f rows accepted k row found;
+      first = walk-finds-the-row v f rows accepted 0 ∙ sym (reads-the-row v f rows accepted 0);
+      next = λ k row found. next-row-found v f rows accepted k row found;
     }
 reading Waveform f parts e =
     let (n, counted, is) = mapped-answer (sampleParts 0) (rowCount f) parts e in

@@ -7,6 +7,7 @@ use mathlib.Core.Path.{_≡_, refl, _∙_, sym, ap}
 use mathlib.Core.List.{List, [], _∷_, map}
 use Rattle.answer.specs.Outcome.{Outcome, answer, refuse, andThen, mapped}
 use Rattle.answer.proofs.Outcomes.{after-refusal, andThen-assoc, andThen-agrees}
+use Rattle.label.specs.declared.Versions.{Versions}
 use Rattle.sfdu.specs.Row.{Row, valueOf}
 use Rattle.sfdu.specs.Check.{rowsOfFile}
 use Rattle.walk.specs.Find as labelled
@@ -27,11 +28,11 @@ nth-of-map [] k = refl
 nth-of-map (r ∷ rs) zero = refl
 nth-of-map (r ∷ rs) (suc k) = nth-of-map rs k
 
-labelled-row : (f : List ℕ) (k : ℕ) → rowOf Labelled f k ≡ labelled.findRow f k
+labelled-row : (v : Versions) (f : List ℕ) (k : ℕ) → rowOf (Labelled v) f k ≡ labelled.findRow v f k
 unfolding rowOf rowParts labelled.findRow
-labelled-row f k =
-    andThen-assoc (rowsOfFile f) (λ rows. answer (map valueOf rows)) (λ parts. nthPart parts k)
-    ∙ andThen-agrees (rowsOfFile f) (λ rows. nthPart (map valueOf rows) k) (λ rows. labelled.nthRow rows k) (λ rows. nth-of-map rows k)
+labelled-row v f k =
+    andThen-assoc (rowsOfFile v f) (λ rows. answer (map valueOf rows)) (λ parts. nthPart parts k)
+    ∙ andThen-agrees (rowsOfFile v f) (λ rows. nthPart (map valueOf rows) k) (λ rows. labelled.nthRow rows k) (λ rows. nth-of-map rows k)
 
 -- ---- waveform files
 
@@ -68,5 +69,5 @@ waveform-row f k = andThen-assoc (rowCount f) (λ n. answer (sampleParts 0 n)) (
 
 pub reads-the-rows : (kind : Kind) (f : List ℕ) (k : ℕ) → findRow kind f k ≡ rowOf kind f k
 unfolding findRow
-reads-the-rows Labelled f k = sym (labelled-row f k)
+reads-the-rows (Labelled v) f k = sym (labelled-row v f k)
 reads-the-rows Waveform f k = sym (waveform-row f k)

@@ -19,27 +19,28 @@ use Rattle.reader.specs.declared.Kind.the-variants.{Labelled, Waveform}
 
 -- what a file of this kind is divided into: a forest of labelled objects, or waveform rows
 abbrev pub Division : Kind → Type 0
-Division Labelled = Forest
+Division (Labelled versions) = Forest
 Division Waveform = List waveform.Row
 
 -- the bytes of a division, end to end
 abbrev pub together : (kind : Kind) → Division kind → List ℕ
-together Labelled F = encode F
+together (Labelled versions) F = encode F
 together Waveform rs = waveform.endToEnd rs
 
--- each of its pieces is as the documents say: labels with their values at depths 1 to 8; 32 and 2,048 bytes
+-- each of its pieces is as the documents say: labels of the versions that are allowed with their values, at depths 1 to 8; 32 and
+-- 2,048 bytes
 abbrev pub Sound : (kind : Kind) → Division kind → Type 0
-Sound Labelled F = Valid 8 F
+Sound (Labelled versions) F = Valid versions 8 F
 Sound Waveform rs = waveform.AreRows rs
 
 -- its rows, each a place and a count
 abbrev pub rowsIn : (kind : Kind) → Division kind → List Part
-rowsIn Labelled F = map valueOf (leaves 1 (λ at. at) 0 F)
+rowsIn (Labelled versions) F = map valueOf (leaves 1 (λ at. at) 0 F)
 rowsIn Waveform rs = waveform.sampleParts 0 (length rs)
 
 -- the bytes of its rows: the leaves' values, or the samples
 abbrev pub bytesIn : (kind : Kind) → Division kind → List (List ℕ)
-bytesIn Labelled F = values F
+bytesIn (Labelled versions) F = values F
 bytesIn Waveform rs = map (λ (r : waveform.Row). r .samples) rs
 
 -- the file divides so, with no gap and no overlap

@@ -1,6 +1,6 @@
 -- Demand 3: "The jump and reading from the first byte give the same answer, whatever the row and window", where "the documents
--- call for it and nowhere else". For labelled files it supposes that the check and the index check accept; for waveform files
--- it supposes nothing.
+-- call for it and nowhere else". For labelled files it supposes that the check and the index check accept, told the same choice of
+-- versions as reading and the jump (document 02, item 11: "suppose one choice throughout"); for waveform files it supposes nothing.
 use Prim.Native.Nat.{ℕ, _+_, _<_}
 use mathlib.Core.Path.{_≡_}
 use mathlib.Core.List.{List}
@@ -16,7 +16,7 @@ use Rattle.reader.specs.declared.Kind.the-variants.{Labelled, Waveform}
 
 -- what is supposed of a file and a list
 abbrev pub Supposed : Kind → List ℕ → List ℕ → Type 0
-Supposed Labelled f xs = (n : ℕ) × (checkFile Labelled f ≡ answer n) × (checkIndex f xs ≡ answer tt)
+Supposed (Labelled versions) f xs = (n : ℕ) × (checkFile (Labelled versions) f ≡ answer n) × (checkIndex versions f xs ≡ answer tt)
 Supposed Waveform f xs = Unit
 
 -- the part that is shown is the window (a, c) of row k, as demand 2 gives the rows: it begins a bytes after the row's first

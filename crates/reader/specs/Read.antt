@@ -17,12 +17,12 @@ use Rattle.reader.specs.declared.Kind.the-variants.{Labelled, Waveform}
 
 -- the row, found from the first byte with no index
 unfoldable pub findRow : Kind → List ℕ → ℕ → Outcome Part
-findRow Labelled f k = labelled-read.findRow f k
+findRow (Labelled versions) f k = labelled-read.findRow versions f k
 findRow Waveform f k = waveform-read.findRow f k
 
 -- the row, jumped to; a waveform file needs no list
 unfoldable pub jumpTo : Kind → List ℕ → List ℕ → ℕ → Outcome Part
-jumpTo Labelled f xs k = labelled-jump.jumpTo f xs k
+jumpTo (Labelled versions) f xs k = labelled-jump.jumpTo versions f xs k
 jumpTo Waveform f xs k = waveform-jump.jumpTo f k
 
 -- reading from the first byte
@@ -36,5 +36,5 @@ jumpRow kind f xs k a c = andThen (jumpTo kind f xs k) (windowIn a c)
 -- Going on (docs/DECISIONS.md): the first whole row from a place on; 14, 12 where the kind has it, 6 for a place past the end or
 -- where no row can start, else what the walk meets.
 unfoldable pub rowFrom : Kind → List ℕ → ℕ → Outcome Part
-rowFrom Labelled f from = andThen (walkFrom f from 0) labelled-read.valueAtLeaf
+rowFrom (Labelled versions) f from = andThen (walkFrom versions f from 0) labelled-read.valueAtLeaf
 rowFrom Waveform f from = waveform-from.rowFrom f from

@@ -1,5 +1,6 @@
 -- The rows of a file of any kind, as demand 2 gives them: which bytes of the file each row is (document 01, "The rows of a
--- labelled file are its leaves in file order"; "The rows of a waveform file are its 2,048-byte sample parts").
+-- labelled file are its leaves in file order"; "The rows of a waveform file are its 2,048-byte sample parts"). The labelled kind
+-- carries the choice of versions (document 02, item 11), one for every call over the kind.
 use Prim.Native.Nat.{ℕ, zero, suc}
 use mathlib.Core.List.{List, [], _∷_, map}
 use Rattle.answer.specs.Outcome.{Outcome, answer, refuse, andThen, mapped}
@@ -13,7 +14,7 @@ use Rattle.reader.specs.declared.Kind.the-variants.{Labelled, Waveform}
 
 -- the rows, in file order
 unfoldable pub rowParts : Kind → List ℕ → Outcome (List Part)
-rowParts Labelled f = mapped (map valueOf) (rowsOfFile f)
+rowParts (Labelled versions) f = mapped (map valueOf) (rowsOfFile versions f)
 rowParts Waveform f = mapped (sampleParts 0) (rowCount f)
 
 -- the row with this number, counted from 0
@@ -24,7 +25,7 @@ nthPart (p ∷ ps) (suc k) = nthPart ps k
 
 -- the check of a file: how many rows it has
 unfoldable pub checkFile : Kind → List ℕ → Outcome ℕ
-checkFile Labelled f = checkLabelled f
+checkFile (Labelled versions) f = checkLabelled versions f
 checkFile Waveform f = rowCount f
 
 -- row k of a file: its place and its size, or why there is none

@@ -1,11 +1,13 @@
 // The reader: files of both kinds, checked, their rows read from the first byte, jumped to or gone on
 // to, each answered as a part of the lent file (`answer::bytes_of` lends its bytes). Renders document
 // 01's demands 2 and 3 over every kind; how a kind is framed is known to the crates below alone. The
-// caller names the kind and vouches for it.
+// caller names the kind and vouches for it; the labelled kind says which versions of the label are
+// allowed.
 use answer::Count;
 use answer::Part;
 use answer::Refusal;
 use answer::Show;
+use label::Versions;
 ghost use mathlib.Core.Path.{_≡_};
 ghost use Prim.Native.Nat.{_+_, _≤_};
 ghost use Rattle.answer.specs.Outcome.{answer, andThen};
@@ -16,8 +18,8 @@ ghost use Rattle.reader.specs.Read.{findRow, jumpTo, readRow, jumpRow, r
 
 // The kinds of file.
 pub enum Kind {
-    // Objects with CCSDS labels, inside one another.
-    Labelled,
+    // Objects with CCSDS labels of these versions, inside one another.
+    Labelled(Versions),
     // RPWS wideband rows of 2,080 bytes.
     Waveform,
 }
@@ -27,7 +29,7 @@ pub fn check(kind: Kind, file: &[u8]) -> Count
     ensures { λ r. ⌜ counted r ≡ checkFile kind (now (file .entry)) ⌝ }
 {
     match kind {
-        Kind::Labelled => sfdu::check(file),
+        Kind::Labelled(versions) => sfdu::check(versions, file),
         Kind::Waveform => waveform::check(file),
     }
 }
@@ -37,7 +39,7 @@ fn find_row(kind: Kind, file: &[u8], k: usize) -> Show
     ensures { λ r. ⌜ shown r ≡ findRow kind (now (file .entry)) k ⌝ }
 {
     match kind {
-        Kind::Labelled => walk::find_row(file, k),
+        Kind::Labelled(versions) => walk::find_row(versions, file, k),
         Kind::Waveform => waveform::find_row(file, k),
     }
 }
@@ -47,7 +49,7 @@ fn jump_to(kind: Kind, file: &[u8], list: &[u32], k: usize) -> Show
     ensures { λ r. ⌜ shown r ≡ jumpTo kind (now (file .entry)) (now (list .entry)) k ⌝ }
 {
     match kind {
-        Kind::Labelled => row_index::jump_to(file, list, k),
+        Kind::Labelled(versions) => row_index::jump_to(versions, file, list, k),
         Kind::Waveform => waveform::jump_to(file, k),
     }
 }
@@ -89,7 +91,7 @@ pub fn row_from(kind: Kind, file: &[u8], from: usize) -> Show
     ensures { λ r. ⌜ shown r ≡ rowFrom kind (now (file .entry)) from ⌝ }
 {
     match kind {
-        Kind::Labelled => walk::value_from(file, from, 0),
+        Kind::Labelled(versions) => walk::value_from(versions, file, from, 0),
         Kind::Waveform => waveform::row_from(file, from),
     }
 }

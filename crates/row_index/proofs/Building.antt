@@ -9,6 +9,7 @@ use lib.ListN.{length, getD, set, take, drop, drop-of-length-le}
 use lib.Seq.{drop-cons}
 use lib.Dec.{eqb}
 use borrow.Author.Tests.{le-leb, lt-leb, eq-eqb, ne-eqb}
+use Rattle.label.specs.declared.Versions.{Versions}
 use Rattle.answer.specs.Outcome.{answer, refuse, need}
 use Rattle.answer.proofs.Outcomes.{refused-first, mapped-answer}
 use Rattle.answer.proofs.Writers.{one-more-written}
@@ -19,62 +20,12 @@ use Rattle.row_index.specs.Private.{theIndex}
 use Rattle.row_index.proofs.Sixteenths.{one-entry-a-group}
 use Rattle.row_index.proofs.Entries.{AtEntry, Entry, first-entry, index-of-accepted}
 
--- ---- the builder's loop
-
-pub record Writing (f : List ℕ) (entries : ℕ) (old list : List ℕ) (i from leaves : ℕ) : Type 0 where
-  pub within : i ≤ entries
-  pub at : AtEntry f i from leaves
-  pub holds : list ≡ take i (theIndex f) ++ drop i old
-
-pub nothing-written : (f : List ℕ) (entries : ℕ) (old : List ℕ) → Writing f entries old old 0 0 0
-nothing-written f entries old = record { within = zero-le; at = first-entry f; holds = refl }
-
-pub entry-written : (f : List ℕ) (entries : ℕ) (old list : List ℕ) (i from leaves place : ℕ) → Writing f entries old list i from leaves
-    → entries ≤ length (theIndex f) → entries ≤ length old → i < entries → Entry f i place → Writing f entries old (set list i place) (i + 1) place 16
-entry-written f entries old list i from leaves place w h k more entry = record {
-  within = omega arith;
-  at = entry .on;
-  holds =
-      ap (λ (l : List ℕ). set l i place) (w .holds)
-      ∙ one-more-written (theIndex f) old i place (omega arith) (omega arith) (entry .is);
-}
-
--- ---- the check's loop
-
 -- two lists that have an entry at i are compared there and then from i + 1 on
 same-step : (xs ys : List ℕ) (i : ℕ) → i < length xs → i < length ys
     → same (drop i xs) (drop i ys) ≡ (eqb (getD xs i 0) (getD ys i 0) && same (drop (i + 1) xs) (drop (i + 1) ys))
 same-step xs ys i h k =
     ap₂ same (drop-cons xs i 0 h) (drop-cons ys i 0 k)
     ∙ ap (λ (n : ℕ). eqb (getD xs i 0) (getD ys i 0) && same (drop n xs) (drop n ys)) (sym (add-one i))
-
-pub record Comparing (f xs : List ℕ) (i from leaves : ℕ) : Type 0 where
-  pub at : AtEntry f i from leaves
-  pub left : same xs (theIndex f) ≡ same (drop i xs) (drop i (theIndex f))
-
-pub nothing-compared : (f xs : List ℕ) → Comparing f xs 0 0 0
-nothing-compared f xs = record { at = first-entry f; left = refl }
-
-module _ (f xs : List ℕ) (i from leaves place : ℕ) (w : Comparing f xs i from leaves) (many : length xs ≡ length (theIndex f))
-    (more : i < length xs) (entry : Entry f i place) where
-  pub entry-agrees : getD xs i 0 ≡ place → Comparing f xs (i + 1) place 16
-  entry-agrees e = record {
-    at = entry .on;
-    left =
-        w .left ∙ same-step xs (theIndex f) i more (omega arith)
-        ∙ ap (λ (t : Bool). t && same (drop (i + 1) xs) (drop (i + 1) (theIndex f))) (eq-eqb (getD xs i 0) (getD (theIndex f) i 0) (e ∙ entry .is));
-  }
-
-  pub entry-differs : (getD xs i 0 ≡ place → ⊥) → same xs (theIndex f) ≡ false
-  entry-differs d =
-      w .left ∙ same-step xs (theIndex f) i more (omega arith)
-      ∙ ap (λ (t : Bool). t && same (drop (i + 1) xs) (drop (i + 1) (theIndex f)))
-      (ne-eqb (getD xs i 0) (getD (theIndex f) i 0) (λ e. d (e ∙ sym (entry .is))))
-
-pub all-compared : (f xs : List ℕ) (i from leaves : ℕ) → Comparing f xs i from leaves → length xs ≡ length (theIndex f) → length xs ≤ i
-    → same xs (theIndex f) ≡ true
-all-compared f xs i from leaves w many h =
-    w .left ∙ ap₂ same (drop-of-length-le xs {i = i} h) (drop-of-length-le (theIndex f) {i = i} (omega arith))
 
 -- lists of different lengths are not the same
 pub lengths-differ : (xs ys : List ℕ) → (length xs ≡ length ys → ⊥) → same xs ys ≡ false
@@ -87,49 +38,101 @@ lengths-differ (x ∷ xs) (y ∷ ys) d = ap (λ (t : Bool). eqb x y && t) (lengt
     never true = refl
     never false = refl
 
--- ---- the answers
+-- which versions of the label are allowed
+module _ (versions : Versions) where
+  -- ---- the builder's loop
 
--- what a count says: the file's rows, and as many entries as groups
-module _ (f : List ℕ) (n : ℕ) (checked : checkLabelled f ≡ answer n) where
-  pub rows-counted : (rows : List Row) × (rowsOfFile f ≡ answer rows) × (length rows ≡ n)
-  unfolding checkLabelled
-  rows-counted = mapped-answer length (rowsOfFile f) n checked
+  pub record Writing (f : List ℕ) (entries : ℕ) (old list : List ℕ) (i from leaves : ℕ) : Type 0 where
+    pub within : i ≤ entries
+    pub at : AtEntry versions f i from leaves
+    pub holds : list ≡ take i (theIndex versions f) ++ drop i old
 
-  pub entries-counted : length (theIndex f) ≡ (n + 15) / 16
-  entries-counted =
-      let (rows, accepted, many) = rows-counted in
-      ap length (index-of-accepted f rows accepted) ∙ one-entry-a-group rows ∙ ap (λ (k : ℕ). (k + 15) / 16) many
+  pub nothing-written : (f : List ℕ) (entries : ℕ) (old : List ℕ) → Writing f entries old old 0 0 0
+  nothing-written f entries old = record { within = zero-le; at = first-entry versions f; holds = refl }
 
-  module _ (room : ℕ) where
-    pub no-room-to-build : room < (n + 15) / 16 → buildIndex f room ≡ refuse 8 0
-    unfolding buildIndex
-    no-room-to-build h =
+  pub entry-written : (f : List ℕ) (entries : ℕ) (old list : List ℕ) (i from leaves place : ℕ) → Writing f entries old list i from leaves
+      → entries ≤ length (theIndex versions f) → entries ≤ length old → i < entries → Entry versions f i place → Writing f entries old (set list i place) (i + 1) place 16
+  entry-written f entries old list i from leaves place w h k more entry = record {
+    within = omega arith;
+    at = entry .on;
+    holds =
+        ap (λ (l : List ℕ). set l i place) (w .holds)
+        ∙ one-more-written (theIndex versions f) old i place (omega arith) (omega arith) (entry .is);
+  }
+
+  -- ---- the check's loop
+
+  pub record Comparing (f xs : List ℕ) (i from leaves : ℕ) : Type 0 where
+    pub at : AtEntry versions f i from leaves
+    pub left : same xs (theIndex versions f) ≡ same (drop i xs) (drop i (theIndex versions f))
+
+  pub nothing-compared : (f xs : List ℕ) → Comparing f xs 0 0 0
+  nothing-compared f xs = record { at = first-entry versions f; left = refl }
+
+  module _ (f xs : List ℕ) (i from leaves place : ℕ) (w : Comparing f xs i from leaves) (many : length xs ≡ length (theIndex versions f))
+      (more : i < length xs) (entry : Entry versions f i place) where
+    pub entry-agrees : getD xs i 0 ≡ place → Comparing f xs (i + 1) place 16
+    entry-agrees e = record {
+      at = entry .on;
+      left =
+          w .left ∙ same-step xs (theIndex versions f) i more (omega arith)
+          ∙ ap (λ (t : Bool). t && same (drop (i + 1) xs) (drop (i + 1) (theIndex versions f))) (eq-eqb (getD xs i 0) (getD (theIndex versions f) i 0) (e ∙ entry .is));
+    }
+
+    pub entry-differs : (getD xs i 0 ≡ place → ⊥) → same xs (theIndex versions f) ≡ false
+    entry-differs d =
+        w .left ∙ same-step xs (theIndex versions f) i more (omega arith)
+        ∙ ap (λ (t : Bool). t && same (drop (i + 1) xs) (drop (i + 1) (theIndex versions f)))
+        (ne-eqb (getD xs i 0) (getD (theIndex versions f) i 0) (λ e. d (e ∙ sym (entry .is))))
+
+  pub all-compared : (f xs : List ℕ) (i from leaves : ℕ) → Comparing f xs i from leaves → length xs ≡ length (theIndex versions f) → length xs ≤ i
+      → same xs (theIndex versions f) ≡ true
+  all-compared f xs i from leaves w many h =
+      w .left ∙ ap₂ same (drop-of-length-le xs {i = i} h) (drop-of-length-le (theIndex versions f) {i = i} (omega arith))
+
+  -- ---- the answers
+
+  -- what a count says: the file's rows, and as many entries as groups
+  module _ (f : List ℕ) (n : ℕ) (checked : checkLabelled versions f ≡ answer n) where
+    pub rows-counted : (rows : List Row) × (rowsOfFile versions f ≡ answer rows) × (length rows ≡ n)
+    unfolding checkLabelled
+    rows-counted = mapped-answer length (rowsOfFile versions f) n checked
+
+    pub entries-counted : length (theIndex versions f) ≡ (n + 15) / 16
+    entries-counted =
         let (rows, accepted, many) = rows-counted in
-        let k = one-entry-a-group rows ∙ ap (λ (k : ℕ). (k + 15) / 16) many in
-        rw (accepted, lt-leb (length (indexOf rows)) room (omega (arith, k)))
+        ap length (index-of-accepted versions f rows accepted) ∙ one-entry-a-group rows ∙ ap (λ (k : ℕ). (k + 15) / 16) many
 
-    pub index-is-built : (n + 15) / 16 ≤ room → (rows : List Row) × (buildIndex f room ≡ answer rows) × (indexOf rows ≡ theIndex f) × (length rows ≡ n)
-    unfolding buildIndex
-    index-is-built h =
+    module _ (room : ℕ) where
+      pub no-room-to-build : room < (n + 15) / 16 → buildIndex versions f room ≡ refuse 8 0
+      unfolding buildIndex
+      no-room-to-build h =
+          let (rows, accepted, many) = rows-counted in
+          let k = one-entry-a-group rows ∙ ap (λ (k : ℕ). (k + 15) / 16) many in
+          rw (accepted, lt-leb (length (indexOf rows)) room (omega (arith, k)))
+
+      pub index-is-built : (n + 15) / 16 ≤ room → (rows : List Row) × (buildIndex versions f room ≡ answer rows) × (indexOf rows ≡ theIndex versions f) × (length rows ≡ n)
+      unfolding buildIndex
+      index-is-built h =
+          let (rows, accepted, many) = rows-counted in
+          let k : length (indexOf rows) ≡ (n + 15) / 16 = one-entry-a-group rows ∙ ap (λ (k : ℕ). (k + 15) / 16) many in
+          (rows, rw (accepted, le-leb (length (indexOf rows)) room (omega (arith, k))), sym (index-of-accepted versions f rows accepted), many)
+
+    pub index-is-checked : (xs : List ℕ) → checkIndex versions f xs ≡ need (same xs (theIndex versions f)) 11 (answer tt)
+    unfolding checkIndex
+    index-is-checked xs =
         let (rows, accepted, many) = rows-counted in
-        let k : length (indexOf rows) ≡ (n + 15) / 16 = one-entry-a-group rows ∙ ap (λ (k : ℕ). (k + 15) / 16) many in
-        (rows, rw (accepted, le-leb (length (indexOf rows)) room (omega (arith, k))), sym (index-of-accepted f rows accepted), many)
+        rw (accepted, index-of-accepted versions f rows accepted)
 
-  pub index-is-checked : (xs : List ℕ) → checkIndex f xs ≡ need (same xs (theIndex f)) 11 (answer tt)
-  unfolding checkIndex
-  index-is-checked xs =
-      let (rows, accepted, many) = rows-counted in
-      rw (accepted, index-of-accepted f rows accepted)
+  module _ (f : List ℕ) (n p : ℕ) (refused : checkLabelled versions f ≡ refuse n p) where
+    no-rows : rowsOfFile versions f ≡ refuse n p
+    unfolding checkLabelled
+    no-rows = refused-first (rowsOfFile versions f) length refused
 
-module _ (f : List ℕ) (n p : ℕ) (refused : checkLabelled f ≡ refuse n p) where
-  no-rows : rowsOfFile f ≡ refuse n p
-  unfolding checkLabelled
-  no-rows = refused-first (rowsOfFile f) length refused
+    pub not-built : (room : ℕ) → buildIndex versions f room ≡ refuse n p
+    unfolding buildIndex
+    not-built room = rw no-rows
 
-  pub not-built : (room : ℕ) → buildIndex f room ≡ refuse n p
-  unfolding buildIndex
-  not-built room = rw no-rows
-
-  pub not-checked : (xs : List ℕ) → checkIndex f xs ≡ refuse n p
-  unfolding checkIndex
-  not-checked xs = rw no-rows
+    pub not-checked : (xs : List ℕ) → checkIndex versions f xs ≡ refuse n p
+    unfolding checkIndex
+    not-checked xs = rw no-rows

@@ -8,6 +8,7 @@ use mathlib.Core.Path.{_≡_, _∙_, sym, ap}
 use mathlib.Core.List.{List}
 use lib.ListN.{length, getD}
 use borrow.Author.Tests.{le-leb, lt-leb, lt-ltb, le-ltb}
+use Rattle.label.specs.declared.Versions.{Versions}
 use Rattle.answer.specs.Outcome.{Outcome, answer, refuse, andThen}
 use Rattle.answer.specs.Size.{largestFile}
 use Rattle.sfdu.specs.Row.{Row}
@@ -24,51 +25,53 @@ use Rattle.row_index.specs.Jump.{jumpTo}
 use Rattle.row_index.proofs.Sixteenths.{no-such-row, one-entry-a-group}
 use Rattle.row_index.proofs.Entries.{leaf-of-entry}
 
--- ---- the jump case by case
+-- which versions of the label are allowed
+module _ (versions : Versions) where
+  -- ---- the jump case by case
 
-module _ (f xs : List ℕ) (k : ℕ) where
-  pub too-big-to-jump : largestFile < length f → jumpTo f xs k ≡ refuse 14 0
-  unfolding jumpTo
-  too-big-to-jump h = rw (lt-leb (length f) largestFile h)
-
-  module _ (small : length f ≤ largestFile) where
-    pub no-entry : length xs ≤ k / 16 → jumpTo f xs k ≡ refuse 6 0
+  module _ (f xs : List ℕ) (k : ℕ) where
+    pub too-big-to-jump : largestFile < length f → jumpTo versions f xs k ≡ refuse 14 0
     unfolding jumpTo
-    no-entry h = rw (le-leb (length f) largestFile small, le-ltb (k / 16) (length xs) h)
+    too-big-to-jump h = rw (lt-leb (length f) largestFile h)
 
-    module _ (there : k / 16 < length xs) where
-      pub entry-beyond : length f < getD xs (k / 16) 0 → jumpTo f xs k ≡ refuse 11 0
+    module _ (small : length f ≤ largestFile) where
+      pub no-entry : length xs ≤ k / 16 → jumpTo versions f xs k ≡ refuse 6 0
       unfolding jumpTo
-      entry-beyond h = rw (le-leb (length f) largestFile small, lt-ltb (k / 16) (length xs) there, lt-leb (getD xs (k / 16) 0) (length f) h)
+      no-entry h = rw (le-leb (length f) largestFile small, le-ltb (k / 16) (length xs) h)
 
-      pub jumps-from-entry : getD xs (k / 16) 0 ≤ length f → jumpTo f xs k ≡ andThen (walkFrom f (getD xs (k / 16) 0) (k % 16)) valueAtLeaf
-      unfolding jumpTo
-      jumps-from-entry h = rw (le-leb (length f) largestFile small, lt-ltb (k / 16) (length xs) there, le-leb (getD xs (k / 16) 0) (length f) h)
+      module _ (there : k / 16 < length xs) where
+        pub entry-beyond : length f < getD xs (k / 16) 0 → jumpTo versions f xs k ≡ refuse 11 0
+        unfolding jumpTo
+        entry-beyond h = rw (le-leb (length f) largestFile small, lt-ltb (k / 16) (length xs) there, lt-leb (getD xs (k / 16) 0) (length f) h)
 
--- ---- the theorem
+        pub jumps-from-entry : getD xs (k / 16) 0 ≤ length f → jumpTo versions f xs k ≡ andThen (walkFrom versions f (getD xs (k / 16) 0) (k % 16)) valueAtLeaf
+        unfolding jumpTo
+        jumps-from-entry h = rw (le-leb (length f) largestFile small, lt-ltb (k / 16) (length xs) there, le-leb (getD xs (k / 16) 0) (length f) h)
 
-module _ (f : List ℕ) (rows : List Row) (accepted : rowsOfFile f ≡ answer rows) (k : ℕ) where
-  -- no entry, no row
-  beyond-the-last-group : length (indexOf rows) ≤ k / 16 → jumpTo f (indexOf rows) k ≡ nthRow rows k
-  beyond-the-last-group h =
-      no-entry f (indexOf rows) k (accepted-says f rows accepted .0) h
-      ∙ sym (no-such-row rows k (omega (arith, one-entry-a-group rows)))
+  -- ---- the theorem
 
-  -- from an entry, the walk goes on as reading does
-  from-the-entry : k / 16 < length (indexOf rows) → jumpTo f (indexOf rows) k ≡ nthRow rows k
-  from-the-entry h =
-      let (x, walks, place) = leaf-of-entry f rows accepted (k / 16) h in
-      let inside : x .place ≤ length f = omega (arith, found-ends-inside f 0 (16 * (k / 16)) x walks) in
-      let small = accepted-says f rows accepted .0 in
-      jumps-from-entry f (indexOf rows) k small h (omega (arith, inside, place))
-      ∙ ap (λ (o : Outcome Leaf). andThen o valueAtLeaf)
-      (ap (λ (p : ℕ). walkFrom f p (k % 16)) (sym place) ∙ place-inside f (x .place) (k % 16) small inside
-      ∙ sym (ap (λ (o : Outcome Leaf). andThen o (λ y. walkAt f (y .place) (k % 16))) walks)
-      ∙ sym (resume f 0 (16 * (k / 16)) (k % 16))
-      ∙ ap (walkAt f 0) {x = 16 * (k / 16) + k % 16} {y = k} (omega arith))
-      ∙ walk-reads-rows f rows (accepted-says f rows accepted .1) k
+  module _ (f : List ℕ) (rows : List Row) (accepted : rowsOfFile versions f ≡ answer rows) (k : ℕ) where
+    -- no entry, no row
+    beyond-the-last-group : length (indexOf rows) ≤ k / 16 → jumpTo versions f (indexOf rows) k ≡ nthRow rows k
+    beyond-the-last-group h =
+        no-entry f (indexOf rows) k (accepted-says versions f rows accepted .0) h
+        ∙ sym (no-such-row rows k (omega (arith, one-entry-a-group rows)))
 
-  pub jump-is-read : jumpTo f (indexOf rows) k ≡ findRow f k
-  jump-is-read =
-      elim (decLe (length (indexOf rows)) (k / 16)) [ yes h ↦ beyond-the-last-group h | no h ↦ from-the-entry (lt-of-not-le h) ]
-      ∙ sym (reads-the-row f rows accepted k)
+    -- from an entry, the walk goes on as reading does
+    from-the-entry : k / 16 < length (indexOf rows) → jumpTo versions f (indexOf rows) k ≡ nthRow rows k
+    from-the-entry h =
+        let (x, walks, place) = leaf-of-entry versions f rows accepted (k / 16) h in
+        let inside : x .place ≤ length f = omega (arith, found-ends-inside versions f 0 (16 * (k / 16)) x walks) in
+        let small = accepted-says versions f rows accepted .0 in
+        jumps-from-entry f (indexOf rows) k small h (omega (arith, inside, place))
+        ∙ ap (λ (o : Outcome Leaf). andThen o valueAtLeaf)
+        (ap (λ (p : ℕ). walkFrom versions f p (k % 16)) (sym place) ∙ place-inside versions f (x .place) (k % 16) small inside
+        ∙ sym (ap (λ (o : Outcome Leaf). andThen o (λ y. walkAt versions f (y .place) (k % 16))) walks)
+        ∙ sym (resume versions f 0 (16 * (k / 16)) (k % 16))
+        ∙ ap (walkAt versions f 0) {x = 16 * (k / 16) + k % 16} {y = k} (omega arith))
+        ∙ walk-reads-rows versions f rows (accepted-says versions f rows accepted .1) k
+
+    pub jump-is-read : jumpTo versions f (indexOf rows) k ≡ findRow versions f k
+    jump-is-read =
+        elim (decLe (length (indexOf rows)) (k / 16)) [ yes h ↦ beyond-the-last-group h | no h ↦ from-the-entry (lt-of-not-le h) ]
+        ∙ sym (reads-the-row versions f rows accepted k)

@@ -1,5 +1,6 @@
 -- The index of a labelled file (document 01: "one entry for each started group of 16 rows: the place of the label of rows 0,
--- 16, 32 and so on"), its builder (14, faults, 8) and its check (14, faults, 11).
+-- 16, 32 and so on"), its builder (14, faults, 8) and its check (14, faults, 11). Both are told which versions of the label are
+-- allowed (document 02, item 11).
 use Prim.Native.Nat.{ℕ, zero, suc}
 use mathlib.Core.Bool.{Bool, true, false, _&&_}
 use mathlib.Core.List.{List, [], _∷_}
@@ -7,6 +8,7 @@ use lib.ListN.{length}
 use lib.Dec.{leb, eqb}
 use Rattle.answer.specs.Outcome.{Outcome, answer, refuse, need, andThen}
 use Rattle.answer.specs.Refusal.{numberOf}
+use Rattle.label.specs.declared.Versions.{Versions}
 use Rattle.sfdu.specs.Row.{Row}
 use Rattle.sfdu.specs.Check.{rowsOfFile}
 use Rattle.row_index.specs.declared.Built.{Built}
@@ -30,8 +32,8 @@ abbrev pub indexOf : List Row → List ℕ
 indexOf rows = every 0 rows
 
 -- the rows whose index is written into a list with room for so many entries: 14, faults, 8
-unfoldable pub buildIndex : List ℕ → ℕ → Outcome (List Row)
-buildIndex f room = andThen (rowsOfFile f) (λ rows. need (leb (length (indexOf rows)) room) 8 (answer rows))
+unfoldable pub buildIndex : Versions → List ℕ → ℕ → Outcome (List Row)
+buildIndex versions f room = andThen (rowsOfFile versions f) (λ rows. need (leb (length (indexOf rows)) room) 8 (answer rows))
 
 -- what the builder answers of these rows: how many entries, and how many rows
 abbrev pub builtOf : List Row → Built
@@ -45,8 +47,8 @@ same (x ∷ xs) [] = false
 same (x ∷ xs) (y ∷ ys) = eqb x y && same xs ys
 
 -- the whole list is this file's index
-unfoldable pub checkIndex : List ℕ → List ℕ → Outcome Unit
-checkIndex f xs = andThen (rowsOfFile f) (λ rows. need (same xs (indexOf rows)) 11 (answer tt))
+unfoldable pub checkIndex : Versions → List ℕ → List ℕ → Outcome Unit
+checkIndex versions f xs = andThen (rowsOfFile versions f) (λ rows. need (same xs (indexOf rows)) 11 (answer tt))
 
 -- what the answer enums stand for
 abbrev pub built : Build → Outcome Built

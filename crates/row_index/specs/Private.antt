@@ -2,6 +2,7 @@
 use Prim.Native.Nat.{ℕ}
 use mathlib.Core.List.{List, []}
 use Rattle.answer.specs.Outcome.{Outcome, answer, refuse}
+use Rattle.label.specs.declared.Versions.{Versions}
 use Rattle.sfdu.specs.Row.{Row}
 use Rattle.sfdu.specs.Check.{rowsOfFile}
 use Rattle.walk.specs.declared.Leaf.{Leaf}
@@ -12,8 +13,8 @@ abbrev pub known : Outcome (List Row) → List ℕ
 known (answer rows) = indexOf rows
 known (refuse n p) = []
 
-unfoldable pub theIndex : List ℕ → List ℕ
-theIndex f = known (rowsOfFile f)
+unfoldable pub theIndex : Versions → List ℕ → List ℕ
+theIndex versions f = known (rowsOfFile versions f)
 
 -- the place of the label that a walk came to
 abbrev pub placeFound : Outcome Leaf → ℕ

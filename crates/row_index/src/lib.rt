@@ -4,6 +4,7 @@
 use answer::Count;
 use answer::Refusal;
 use answer::Show;
+use label::Versions;
 use walk::Walked;
 ghost use mathlib.Core.Path.{_≡_};
 ghost use Prim.Native.Nat.{_+_, _/_, _≤_};
@@ -40,8 +41,8 @@ pub enum Verified {
 }
 
 // The value of row k by the list: the entry of its group of sixteen, and then a walk.
-pub fn jump_to(file: &[u8], list: &[u32], k: usize) -> Show
-    ensures { λ r. ⌜ shown r ≡ jumpTo (now (file .entry)) (now (list .entry)) k ⌝ }
+pub fn jump_to(versions: Versions, file: &[u8], list: &[u32], k: usize) -> Show
+    ensures { λ r. ⌜ shown r ≡ jumpTo versions (now (file .entry)) (now (list .entry)) k ⌝ }
 {
     if answer::LARGEST_FILE < file.len() {
         return Show::Refused(Refusal::TooBig, 0);
@@ -54,14 +55,14 @@ pub fn jump_to(file: &[u8], list: &[u32], k: usize) -> Show
     if file.len() < entry {
         return Show::Refused(Refusal::BadIndex, 0);
     }
-    walk::value_from(file, entry, k % GROUP)
+    walk::value_from(versions, file, entry, k % GROUP)
 }
 
 // The place of the label that a walk comes to; 0 where it comes to none.
-fn entry_from(file: &[u8], from: usize, leaves: usize) -> usize
-    ensures { λ r. ⌜ (r ≡ placeFound (walkFrom (now (file .entry)) from leaves)) × (r ≤ length (now (file .entry))) ⌝ }
+fn entry_from(versions: Versions, file: &[u8], from: usize, leaves: usize) -> usize
+    ensures { λ r. ⌜ (r ≡ placeFound (walkFrom versions (now (file .entry)) from leaves)) × (r ≤ length (now (file .entry))) ⌝ }
 {
-    match walk::walk_from(file, from, leaves) {
+    match walk::walk_from(versions, file, from, leaves) {
         Walked::Is(leaf) => leaf.place,
         Walked::Refused(_, _) => 0,
     }
@@ -69,15 +70,15 @@ fn entry_from(file: &[u8], from: usize, leaves: usize) -> usize
 
 // Writes the first entries of the file's index: each is found by a walk of sixteen leaves from the
 // one before it.
-fn write_entries(file: &[u8], entries: usize, list: &mut [u32])
-    requires { ⌜ (length (now file) ≤ largestFile) × (entries ≤ length (theIndex (now file))) × (entries ≤ length (now list)) ⌝ }
-    ensures { λ _. ⌜ now (list .exit) ≡ take entries (theIndex (now (file .entry))) ++ drop entries (now (list .entry)) ⌝ }
+fn write_entries(versions: Versions, file: &[u8], entries: usize, list: &mut [u32])
+    requires { ⌜ (length (now file) ≤ largestFile) × (entries ≤ length (theIndex versions (now file))) × (entries ≤ length (now list)) ⌝ }
+    ensures { λ _. ⌜ now (list .exit) ≡ take entries (theIndex versions (now (file .entry))) ++ drop entries (now (list .entry)) ⌝ }
 {
     let mut i: usize = 0;
     let mut from: usize = 0;
     let mut leaves: usize = 0;
     while i < entries {
-        let place = entry_from(file, from, leaves);
+        let place = entry_from(versions, file, from, leaves);
         list[i] = place as u32;
         from = place;
         leaves = GROUP;
@@ -86,15 +87,15 @@ fn write_entries(file: &[u8], entries: usize, list: &mut [u32])
 }
 
 // Whether the list is the file's index, where it has as many entries.
-fn entries_agree(file: &[u8], list: &[u32]) -> bool
-    requires { ⌜ length (now list) ≡ length (theIndex (now file)) ⌝ }
-    ensures { λ r. ⌜ r ≡ same (now (list .entry)) (theIndex (now (file .entry))) ⌝ }
+fn entries_agree(versions: Versions, file: &[u8], list: &[u32]) -> bool
+    requires { ⌜ length (now list) ≡ length (theIndex versions (now file)) ⌝ }
+    ensures { λ r. ⌜ r ≡ same (now (list .entry)) (theIndex versions (now (file .entry))) ⌝ }
 {
     let mut done: usize = 0;
     let mut from: usize = 0;
     let mut leaves: usize = 0;
     while done < list.len() {
-        let place = entry_from(file, from, leaves);
+        let place = entry_from(versions, file, from, leaves);
         if list[done] as usize != place {
             return false;
         }
@@ -117,35 +118,35 @@ fn groups(rows: usize) -> usize
 }
 
 // Builds the index: writes its entries to the front of the list, and leaves the rest as it is.
-pub fn build_index(file: &[u8], list: &mut [u32]) -> Build
-    ensures answers { λ r. ⌜ built r ≡ mapped builtOf (buildIndex (now (file .entry)) (length (now (list .entry)))) ⌝ }
-    ensures leaves { λ _. ⌜ now (list .exit) ≡ filled (mapped indexOf (buildIndex (now (file .entry)) (length (now (list .entry)))))
+pub fn build_index(versions: Versions, file: &[u8], list: &mut [u32]) -> Build
+    ensures answers { λ r. ⌜ built r ≡ mapped builtOf (buildIndex versions (now (file .entry)) (length (now (list .entry)))) ⌝ }
+    ensures leaves { λ _. ⌜ now (list .exit) ≡ filled (mapped indexOf (buildIndex versions (now (file .entry)) (length (now (list .entry)))))
         (now (list .entry)) ⌝ }
 {
-    match sfdu::check(file) {
+    match sfdu::check(versions, file) {
         Count::Refused(why, place) => Build::Refused(why, place),
         Count::Is(rows) => {
             let entries = groups(rows);
             if list.len() < entries {
                 return Build::Refused(Refusal::Small, 0);
             }
-            write_entries(file, entries, list);
+            write_entries(versions, file, entries, list);
             Build::Is(Built { entries, rows })
         }
     }
 }
 
 // Checks a list against the file: it must be the file's index, entry for entry.
-pub fn check_index(file: &[u8], list: &[u32]) -> Verified
-    ensures { λ r. ⌜ accepted r ≡ checkIndex (now (file .entry)) (now (list .entry)) ⌝ }
+pub fn check_index(versions: Versions, file: &[u8], list: &[u32]) -> Verified
+    ensures { λ r. ⌜ accepted r ≡ checkIndex versions (now (file .entry)) (now (list .entry)) ⌝ }
 {
-    match sfdu::check(file) {
+    match sfdu::check(versions, file) {
         Count::Refused(why, place) => Verified::Refused(why, place),
         Count::Is(rows) => {
             if list.len() != groups(rows) {
                 return Verified::Refused(Refusal::BadIndex, 0);
             }
-            if entries_agree(file, list) {
+            if entries_agree(versions, file, list) {
                 Verified::Right
             } else {
                 Verified::Refused(Refusal::BadIndex, 0)

@@ -1,11 +1,14 @@
 // Samples, printed and compared with a stored output: files of the folder data/ listed as the list
 // program lists them, among them records of source documents 001 (sections 3.2.1, 3.2.2 and 3.5.12)
 // and 004 (sections 4.4.146 to 4.4.149), one whose lengths are padded with 0 to 7 spaces at four
-// depths, and two with objects of classes U and F, of which one does not divide; the opening of that
-// record of file 12; and document 01's cases that are not proved, 6 (depths 8 and 9) and 9 (windows at
-// the end of a waveform row).
+// depths, and two with objects of classes U and F, of which one does not divide; a file with labels of
+// both versions, listed and then read with both allowed; the opening of that record of file 12; and
+// document 01's cases that are not proved, 6 (depths 8 and 9) and 9 (windows at the end of a waveform
+// row).
+use answer::Count;
 use answer::Refusal;
 use answer::Show;
+use label::Versions;
 use libc::STDOUT_FILENO;
 use orbit::Open;
 use reader::Kind;
@@ -105,6 +108,38 @@ fn print_shown(shown: Show) {
     }
 }
 
+// Prints where row `k` of a labelled file is, with both versions of the label allowed.
+fn print_row(file: &[u8], k: usize) {
+    print(b"row");
+    print_number(k);
+    print(b":");
+    let kind = Kind::Labelled(Versions::OneAndTwo);
+    print_shown(reader::read_row(kind, file, k, 0, 0));
+    print(b"\n");
+}
+
+// Prints how many rows a file has, with both versions of the label allowed, and where the first three
+// begin.
+fn print_both_versions(name: &[u8]) {
+    let mut memory = [0u8; 108];
+    let fd = os::open_read(name);
+    if fd < 0 {
+        os::fail(name);
+        return;
+    }
+    input::read_up_to(fd, &mut memory);
+    libc::close(fd);
+    print(b"both versions:");
+    match reader::check(Kind::Labelled(Versions::OneAndTwo), &memory) {
+        Count::Is(rows) => print_number(rows),
+        Count::Refused(why, place) => print_refusal(why, place),
+    }
+    print(b"\n");
+    print_row(&memory, 0);
+    print_row(&memory, 1);
+    print_row(&memory, 2);
+}
+
 // Prints the window (a, c) of the one row of a waveform file, read and jumped to.
 fn print_window(a: usize, c: usize) {
     let file = [0u8; ROW];
@@ -134,6 +169,8 @@ fn main() {
     list(b"padded_lengths.sfdu");
     list(b"inner_sets.sfdu");
     list(b"inner_set_cut.sfdu");
+    list(b"both_versions.sfdu");
+    print_both_versions(b"both_versions.sfdu");
     list(b"bytes_65536.sfdu");
     list(b"bytes_65537.sfdu");
     print_window(2048, 0);

@@ -5,16 +5,19 @@ use mathlib.Core.List.{List}
 use lib.ListN.{length}
 use Rattle.answer.specs.Outcome.{Outcome, mapped}
 use Rattle.answer.specs.Size.{ofFile}
+use Rattle.label.specs.declared.Versions.{Versions}
 use Rattle.sfdu.specs.Row.{Row}
 use Rattle.sfdu.specs.Scan.{scan}
-
--- the rows of a labelled file that is not too big
-unfoldable pub rowsOfFile : List ℕ → Outcome (List Row)
-rowsOfFile f = ofFile f (scan f)
 
 -- how many rows were found
 abbrev pub counting : Outcome (List Row) → Outcome ℕ
 counting o = mapped length o
 
-unfoldable pub checkLabelled : List ℕ → Outcome ℕ
-checkLabelled f = counting (rowsOfFile f)
+-- which versions of the label are allowed
+module _ (versions : Versions) where
+  -- the rows of a labelled file that is not too big
+  unfoldable pub rowsOfFile : List ℕ → Outcome (List Row)
+  rowsOfFile f = ofFile f (scan versions f)
+
+  unfoldable pub checkLabelled : List ℕ → Outcome ℕ
+  checkLabelled f = counting (rowsOfFile f)

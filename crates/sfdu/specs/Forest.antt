@@ -9,6 +9,7 @@ use mathlib.Core.List.{List, [], _∷_, _++_}
 use lib.ListN.{length}
 use Rattle.answer.specs.Outcome.{answer}
 use Rattle.label.specs.declared.Label.{Label}
+use Rattle.label.specs.declared.Versions.{Versions}
 use Rattle.label.specs.Head.{labelSize}
 use Rattle.label.specs.Label.{readLabel}
 use Rattle.label.specs.Opened.{isOpened}
@@ -25,22 +26,24 @@ encode done = []
 encode (leaf label value rest) = label ++ (value ++ encode rest)
 encode (group label inside rest) = label ++ (encode inside ++ encode rest)
 
--- twenty bytes that are a label with this length, of a class that is opened or not
-pub record IsLabel (bytes : List ℕ) (opened : Bool) (size : ℕ) : Type 0 where
-  pub twenty : length bytes ≡ labelSize
-  pub label : Label
-  pub reads : readLabel bytes ≡ answer label
-  pub class : isOpened (label .class) ≡ opened
-  pub follows : label .length ≡ size
+-- which versions of the label are allowed: a forest may mix them
+module _ (versions : Versions) where
+  -- twenty bytes that are a label with this length, of a class that is opened or not
+  pub record IsLabel (bytes : List ℕ) (opened : Bool) (size : ℕ) : Type 0 where
+    pub twenty : length bytes ≡ labelSize
+    pub label : Label
+    pub reads : readLabel versions bytes ≡ answer label
+    pub class : isOpened (label .class) ≡ opened
+    pub follows : label .length ≡ size
 
--- each label is one, says how long its value is, and stands at one of `left` depths
-abbrev pub Valid : ℕ → Forest → Type 0
-Valid zero done = Unit
-Valid zero (leaf label value rest) = ⊥
-Valid zero (group label inside rest) = ⊥
-Valid (suc left) done = Unit
-Valid (suc left) (leaf label value rest) = IsLabel label false (length value) × Valid (suc left) rest
-Valid (suc left) (group label inside rest) = IsLabel label true (length (encode inside)) × Valid left inside × Valid (suc left) rest
+  -- each label is one, says how long its value is, and stands at one of `left` depths
+  abbrev pub Valid : ℕ → Forest → Type 0
+  Valid zero done = Unit
+  Valid zero (leaf label value rest) = ⊥
+  Valid zero (group label inside rest) = ⊥
+  Valid (suc left) done = Unit
+  Valid (suc left) (leaf label value rest) = IsLabel label false (length value) × Valid (suc left) rest
+  Valid (suc left) (group label inside rest) = IsLabel label true (length (encode inside)) × Valid left inside × Valid (suc left) rest
 
 -- its leaves in file order, as rows: at this depth, from this place on
 abbrev pub leaves : ℕ → (ℕ → ℕ) → ℕ → Forest → List Row

@@ -7,6 +7,7 @@ use lib.ListN.{length, drop}
 use Rattle.answer.specs.Outcome.{Outcome, answer, refuse}
 use Rattle.answer.specs.Refusal.{numberOf}
 use Rattle.label.specs.declared.Label.{Label}
+use Rattle.label.specs.declared.Versions.{Versions}
 use Rattle.label.specs.Head.{labelSize}
 use Rattle.label.specs.Opened.{isOpened}
 use Rattle.sfdu.specs.Scan.{object, objects}
@@ -14,22 +15,24 @@ use Rattle.sfdu.specs.Check.{counting}
 use Rattle.sfdu.specs.declared.Object.{Object}
 use Rattle.sfdu.specs.declared.Object.the-variants.{Leaf, Group, Fault}
 
--- the object at place `at` of a part: its label as the scan takes it, whether its class is opened, and where it ends
-pub record ObjectAt (part : List ℕ) (at : ℕ) (opened : Bool) (end : ℕ) : Type 0 where
-  pub label : Label
-  pub is : object (drop at part) ≡ answer label
-  pub class : isOpened (label .class) ≡ opened
-  pub ends : end ≡ at + labelSize + label .length
-  pub inside : end ≤ length part
+-- which versions of the label are allowed
+module _ (versions : Versions) where
+  -- the object at place `at` of a part: its label as the scan takes it, whether its class is opened, and where it ends
+  pub record ObjectAt (part : List ℕ) (at : ℕ) (opened : Bool) (end : ℕ) : Type 0 where
+    pub label : Label
+    pub is : object versions (drop at part) ≡ answer label
+    pub class : isOpened (label .class) ≡ opened
+    pub ends : end ≡ at + labelSize + label .length
+    pub inside : end ≤ length part
 
--- what the enum `Object` says of place `at` of a part
-abbrev pub Stands : List ℕ → ℕ → Object → Type 0
-Stands part at (Leaf end) = ObjectAt part at false end
-Stands part at (Group end) = ObjectAt part at true end
-Stands part at (Fault why) = (place : ℕ) × (object (drop at part) ≡ refuse (numberOf why) place)
+  -- what the enum `Object` says of place `at` of a part
+  abbrev pub Stands : List ℕ → ℕ → Object → Type 0
+  Stands part at (Leaf end) = ObjectAt part at false end
+  Stands part at (Group end) = ObjectAt part at true end
+  Stands part at (Fault why) = (place : ℕ) × (object versions (drop at part) ≡ refuse (numberOf why) place)
 
--- the nested check of a part of the file from place `base` on, with `left` more depths allowed: the count is the scan's,
--- wherever the part stands in the nesting
-pub record Checked (part : List ℕ) (base left : ℕ) (result : Outcome ℕ) : Type 0 where
-  pub counts : (depth : ℕ) (outermost : ℕ → ℕ) → result ≡ counting (objects left depth outermost base part)
-  pub few : (n : ℕ) → result ≡ answer n → n ≤ length part
+  -- the nested check of a part of the file from place `base` on, with `left` more depths allowed: the count is the scan's,
+  -- wherever the part stands in the nesting
+  pub record Checked (part : List ℕ) (base left : ℕ) (result : Outcome ℕ) : Type 0 where
+    pub counts : (depth : ℕ) (outermost : ℕ → ℕ) → result ≡ counting (objects versions left depth outermost base part)
+    pub few : (n : ℕ) → result ≡ answer n → n ≤ length part

@@ -4,6 +4,7 @@
 use answer::Count;
 use answer::Refusal;
 use label::LabelRead;
+use label::Versions;
 ghost use mathlib.Core.Path.{_≡_};
 ghost use Prim.Native.Nat.{_+_, _≤_, _<_};
 ghost use lib.ListN.{length};
@@ -24,11 +25,11 @@ enum Object {
 }
 
 // The object whose label stands at place `at` of a part, and whose value the part holds.
-fn object_at(part: &[u8], at: usize) -> Object
+fn object_at(versions: Versions, part: &[u8], at: usize) -> Object
     requires { ⌜ at < length (now part) ⌝ }
-    ensures { λ r. ⌜ Stands (now (part .entry)) at r ⌝ }
+    ensures { λ r. ⌜ Stands versions (now (part .entry)) at r ⌝ }
 {
-    match label::read_label(&part[at..]) {
+    match label::read_label(versions, &part[at..]) {
         LabelRead::Refused(why, _) => Object::Fault(why),
         LabelRead::Is(l) => {
             let body = at + label::LABEL;
@@ -47,9 +48,9 @@ fn object_at(part: &[u8], at: usize) -> Object
 
 // The rows of a part of a file, from place `base` on, with `left` more depths allowed: siblings by
 // the loop, what is inside an object by a call on its value.
-fn check_part(part: &[u8], base: usize, left: usize) -> Count
+fn check_part(versions: Versions, part: &[u8], base: usize, left: usize) -> Count
     requires { ⌜ base + length (now part) ≤ largestFile ⌝ }
-    ensures { λ r. ⌜ Checked (now (part .entry)) base left (counted r) ⌝ }
+    ensures { λ r. ⌜ Checked versions (now (part .entry)) base left (counted r) ⌝ }
 {
     if part.len() == 0 {
         return Count::Is(0);
@@ -60,7 +61,7 @@ fn check_part(part: &[u8], base: usize, left: usize) -> Count
     let mut at: usize = 0;
     let mut rows: usize = 0;
     while at < part.len() {
-        match object_at(part, at) {
+        match object_at(versions, part, at) {
             Object::Fault(why) => {
                 let place = base + at;
                 return Count::Refused(why, place);
@@ -72,7 +73,7 @@ fn check_part(part: &[u8], base: usize, left: usize) -> Count
             Object::Group(end) => {
                 let body = at + label::LABEL;
                 let place = base + body;
-                match check_part(&part[body..end], place, left - 1) {
+                match check_part(versions, &part[body..end], place, left - 1) {
                     Count::Refused(why, where_) => {
                         return Count::Refused(why, where_);
                     }
@@ -87,12 +88,12 @@ fn check_part(part: &[u8], base: usize, left: usize) -> Count
     Count::Is(rows)
 }
 
-// The check of a labelled file: how many rows it has, or its first fault.
-pub fn check(file: &[u8]) -> Count
-    ensures { λ r. ⌜ counted r ≡ checkLabelled (now (file .entry)) ⌝ }
+// The check of a labelled file, with labels of these versions: how many rows it has, or its first fault.
+pub fn check(versions: Versions, file: &[u8]) -> Count
+    ensures { λ r. ⌜ counted r ≡ checkLabelled versions (now (file .entry)) ⌝ }
 {
     if answer::LARGEST_FILE < file.len() {
         return Count::Refused(Refusal::TooBig, 0);
     }
-    check_part(file, 0, DEPTHS)
+    check_part(versions, file, 0, DEPTHS)
 }

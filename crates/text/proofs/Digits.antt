@@ -12,7 +12,7 @@ use lib.ListN.{length, length-append}
 use lib.Dec.{leb}
 use borrow.Author.Tests.{le-leb, lt-leb, leb-true}
 use Rattle.answer.proofs.Tests.{both-hold}
-use Rattle.text.specs.Digits.{isDigit, given, decimal, digitsOf}
+use Rattle.text.specs.Digits.{isDigit, given, decimal, digitsIn, digitsOf}
 
 some-injective : {a b : ℕ} → some a ≡ some b → a ≡ b
 some-injective e = cc
@@ -53,11 +53,12 @@ digits-read-back (suc w) n h =
     ∙ a-digit-counts (n / 10) (48 + n % 10) [] (omega arith) (omega arith)
     ∙ ap some (omega arith)
 
--- as many digits as places
-pub length-digits : (w n : ℕ) → length (digitsOf w n) ≡ w
-length-digits zero n = refl
-length-digits (suc w) n =
-    length-append (digitsOf w (n / 10)) ((48 + n % 10) ∷ []) ∙ ap (λ (k : ℕ). k + 1) (length-digits w (n / 10)) ∙ add-one w
+-- as many digits as places, in any base
+pub length-digits : (base nought w n : ℕ) → length (digitsIn base nought w n) ≡ w
+length-digits base nought zero n = refl
+length-digits base nought (suc w) n =
+    length-append (digitsIn base nought w (n / base)) ((nought + n % base) ∷ [])
+    ∙ ap (λ (k : ℕ). k + 1) (length-digits base nought w (n / base)) ∙ add-one w
 
 -- digits that were read write a number with no more digits
 pub no-more-digits : (n : ℕ) (xs : List ℕ) (m : ℕ) → decimal n xs ≡ some m → m < (n + 1) * 10 ^ length xs

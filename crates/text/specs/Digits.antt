@@ -19,7 +19,11 @@ abbrev pub decimal : ℕ → List ℕ → Option ℕ
 decimal n [] = some n
 decimal n (b ∷ bs) = given (isDigit b) (decimal (n * 10 + (b - 48)) bs)
 
+-- the last w digits of n in some base, most significant first, where a digit of value 0 is written as `nought`
+abbrev pub digitsIn : ℕ → ℕ → ℕ → ℕ → List ℕ
+digitsIn base nought zero n = []
+digitsIn base nought (suc w) n = digitsIn base nought w (n / base) ++ ((nought + n % base) ∷ [])
+
 -- the last w decimal digits of n, as characters
 abbrev pub digitsOf : ℕ → ℕ → List ℕ
-digitsOf zero n = []
-digitsOf (suc w) n = digitsOf w (n / 10) ++ ((48 + n % 10) ∷ [])
+digitsOf w n = digitsIn 10 48 w n

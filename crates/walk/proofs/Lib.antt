@@ -2,4 +2,4 @@ pub mod Walking
 pub mod WalkLoop
 pub mod WalkReads
 pub mod Finding
-pub mod Classes
+pub mod Alike

@@ -5,6 +5,7 @@ use mathlib.Core.List.{List, [], _∷_}
 use Rattle.answer.specs.Outcome.{Outcome, answer, refuse, andThen}
 use Rattle.answer.specs.declared.Part.{Part}
 use Rattle.label.specs.Head.{labelSize}
+use Rattle.label.specs.declared.Versions.{Versions}
 use Rattle.sfdu.specs.Row.{Row, valueOf}
 use Rattle.sfdu.specs.Check.{rowsOfFile}
 use Rattle.walk.specs.declared.Leaf.{Leaf}
@@ -15,8 +16,9 @@ nthRow [] k = refuse 6 0
 nthRow (r ∷ rs) zero = answer (valueOf r)
 nthRow (r ∷ rs) (suc k) = nthRow rs k
 
-unfoldable pub findRow : List ℕ → ℕ → Outcome Part
-findRow f k = andThen (rowsOfFile f) (λ rows. nthRow rows k)
+-- the row with this number of a file, where these versions of the label are allowed
+unfoldable pub findRow : Versions → List ℕ → ℕ → Outcome Part
+findRow versions f k = andThen (rowsOfFile versions f) (λ rows. nthRow rows k)
 
 -- the value of a leaf that a walk came to
 abbrev pub valueAtLeaf : Leaf → Outcome Part

@@ -1,4 +1,4 @@
 pub mod Walk
 pub mod Find
 pub mod Private
-pub mod Classes
+pub mod Alike

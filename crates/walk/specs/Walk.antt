@@ -1,6 +1,7 @@
 -- The forward walk, with no memory of depth (document 01, "The index and the jump": it steps over the label of an opened
 -- class by 20 bytes, whatever its length field says, and over a leaf by 20 plus its length; a leaf must end inside the
--- file; 1 to 4 as met, and 6 where the file ends). It is defined for any bytes, from any place.
+-- file; 1 to 4 as met, and 6 where the file ends). It is defined for any bytes, from any place. It is told which versions of the
+-- label are allowed (document 02, item 11), and reads labels as the scan does.
 use Prim.Native.Nat.{ℕ, zero, suc, _+_, _-_}
 use mathlib.Core.Bool.{Bool, true, false}
 use mathlib.Core.Option.{Option, none, some}
@@ -11,6 +12,7 @@ use Rattle.answer.specs.Outcome.{Outcome, answer, refuse, need, andThen}
 use Rattle.answer.specs.Refusal.{numberOf}
 use Rattle.answer.specs.Size.{ofFile}
 use Rattle.label.specs.declared.Label.{Label}
+use Rattle.label.specs.declared.Versions.{Versions}
 use Rattle.label.specs.Head.{labelSize}
 use Rattle.label.specs.Label.{readLabel}
 use Rattle.label.specs.Opened.{isOpened}
@@ -29,10 +31,6 @@ abbrev pub takeLabel : Bool → Label → ℕ → Outcome (Option Label)
 takeLabel true l after = answer none
 takeLabel false l after = need (leb (l .length) after) 4 (answer (some l))
 
--- the label at the front of these bytes, as a walk takes it: 1, 2, 3, 4
-unfoldable pub stepAt : List ℕ → Outcome (Option Label)
-stepAt s = andThen (readLabel s) (λ l. takeLabel (isOpened (l .class)) l (length s - labelSize))
-
 -- what a step at `at` means with k leaves still to pass; `go` walks on with so many leaves and so many bytes to pass
 abbrev pub onStep : ℕ → ℕ → Outcome (Option Label) → (ℕ → ℕ → Outcome Leaf) → Outcome Leaf
 onStep at k (refuse n p) go = refuse n at
@@ -40,12 +38,18 @@ onStep at k (answer none) go = go k 19
 onStep at zero (answer (some l)) go = answer (record { place = at; label = l })
 onStep at (suc k) (answer (some l)) go = go k (19 + l .length)
 
--- from the byte at place `at` on: k leaves and so many bytes are passed before the leaf that is looked for
-unfoldable pub walk : ℕ → ℕ → ℕ → List ℕ → Outcome Leaf
-walk at k passed [] = refuse 6 0
-walk at k (suc passed) (b ∷ bs) = walk (suc at) k passed bs
-walk at k zero (b ∷ bs) = onStep at k (stepAt (b ∷ bs)) (λ j n. walk (suc at) j n bs)
+-- which versions of the label are allowed
+module _ (versions : Versions) where
+  -- the label at the front of these bytes, as a walk takes it: 1, 2, 3, 4
+  unfoldable pub stepAt : List ℕ → Outcome (Option Label)
+  stepAt s = andThen (readLabel versions s) (λ l. takeLabel (isOpened (l .class)) l (length s - labelSize))
 
--- the walk of a file from a place: 14, then 6 for a place past the file's end (docs/DECISIONS.md, "Going on")
-unfoldable pub walkFrom : List ℕ → ℕ → ℕ → Outcome Leaf
-walkFrom f from k = ofFile f (need (leb from (length f)) 6 (walk from k 0 (drop from f)))
+  -- from the byte at place `at` on: k leaves and so many bytes are passed before the leaf that is looked for
+  unfoldable pub walk : ℕ → ℕ → ℕ → List ℕ → Outcome Leaf
+  walk at k passed [] = refuse 6 0
+  walk at k (suc passed) (b ∷ bs) = walk (suc at) k passed bs
+  walk at k zero (b ∷ bs) = onStep at k (stepAt (b ∷ bs)) (λ j n. walk (suc at) j n bs)
+
+  -- the walk of a file from a place: 14, then 6 for a place past the file's end (docs/DECISIONS.md, "Going on")
+  unfoldable pub walkFrom : List ℕ → ℕ → ℕ → Outcome Leaf
+  walkFrom f from k = ofFile f (need (leb from (length f)) 6 (walk from k 0 (drop from f)))

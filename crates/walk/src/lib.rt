@@ -7,6 +7,7 @@ use answer::Refusal;
 use answer::Show;
 use label::Label;
 use label::LabelRead;
+use label::Versions;
 ghost use mathlib.Core.Path.{_≡_};
 ghost use Rattle.answer.specs.Outcome.{andThen};
 ghost use Rattle.answer.specs.Window.{shown};
@@ -34,10 +35,10 @@ enum Step {
 }
 
 // The label at the front of `s`, as a walk takes it.
-fn step_at(s: &[u8]) -> Step
-    ensures { λ r. ⌜ stepped r ≡ stepAt (now (s .entry)) ⌝ }
+fn step_at(versions: Versions, s: &[u8]) -> Step
+    ensures { λ r. ⌜ stepped r ≡ stepAt versions (now (s .entry)) ⌝ }
 {
-    match label::read_label(s) {
+    match label::read_label(versions, s) {
         LabelRead::Refused(why, place) => Step::Fault(why, place),
         LabelRead::Is(l) => {
             if label::is_opened(l.class) {
@@ -54,8 +55,8 @@ fn step_at(s: &[u8]) -> Step
 
 // Walks forward from place `from`, passing so many leaves, to the next leaf: 14, 6 for a place past the
 // end, then as met. It reads no more of the file than it passes.
-pub fn walk_from(file: &[u8], from: usize, leaves: usize) -> Walked
-    ensures { λ r. ⌜ walkedTo r ≡ walkFrom (now (file .entry)) from leaves ⌝ }
+pub fn walk_from(versions: Versions, file: &[u8], from: usize, leaves: usize) -> Walked
+    ensures { λ r. ⌜ walkedTo r ≡ walkFrom versions (now (file .entry)) from leaves ⌝ }
 {
     if answer::LARGEST_FILE < file.len() {
         return Walked::Refused(Refusal::TooBig, 0);
@@ -66,7 +67,7 @@ pub fn walk_from(file: &[u8], from: usize, leaves: usize) -> Walked
     let mut at = from;
     let mut k = leaves;
     while at < file.len() {
-        match step_at(&file[at..]) {
+        match step_at(versions, &file[at..]) {
             Step::Fault(why, _) => {
                 return Walked::Refused(why, at);
             }
@@ -90,10 +91,10 @@ pub fn walk_from(file: &[u8], from: usize, leaves: usize) -> Walked
 }
 
 // The value of the leaf that a walk from place `from` comes to, after so many leaves.
-pub fn value_from(file: &[u8], from: usize, leaves: usize) -> Show
-    ensures { λ r. ⌜ shown r ≡ andThen (walkFrom (now (file .entry)) from leaves) valueAtLeaf ⌝ }
+pub fn value_from(versions: Versions, file: &[u8], from: usize, leaves: usize) -> Show
+    ensures { λ r. ⌜ shown r ≡ andThen (walkFrom versions (now (file .entry)) from leaves) valueAtLeaf ⌝ }
 {
-    match walk_from(file, from, leaves) {
+    match walk_from(versions, file, from, leaves) {
         Walked::Is(leaf) => {
             let value = leaf.place + label::LABEL;
             Show::Is(Part {
@@ -107,11 +108,11 @@ pub fn value_from(file: &[u8], from: usize, leaves: usize) -> Show
 
 // Row k of a labelled file, read from the first byte: the whole file is checked, and then its leaves
 // are counted.
-pub fn find_row(file: &[u8], k: usize) -> Show
-    ensures { λ r. ⌜ shown r ≡ findRow (now (file .entry)) k ⌝ }
+pub fn find_row(versions: Versions, file: &[u8], k: usize) -> Show
+    ensures { λ r. ⌜ shown r ≡ findRow versions (now (file .entry)) k ⌝ }
 {
-    match sfdu::check(file) {
-        Count::Is(_) => value_from(file, 0, k),
+    match sfdu::check(versions, file) {
+        Count::Is(_) => value_from(versions, file, 0, k),
         Count::Refused(why, place) => Show::Refused(why, place),
     }
 }

@@ -6,6 +6,9 @@ use borrow.Author.Needs.{needs}
 use Rattle.capi.proofs.crest_check_index.Statement.{statement}
 use Rattle.capi.proofs.crest_check_index.Tie as tie
 
+choice-requires : tie.Need-choice-requires
+choice-requires c κs = search needs
+
 check-index-requires : tie.Need-check-index-requires
 check-index-requires c κs = search needs
 
@@ -20,15 +23,15 @@ refused-requires c κs = search needs
 
 returns : tie.Need-returns
 returns c =
-    let e = sym (c .before .before .check-index .ensures) ∙ ap accepted (c .enum-told .given .1) in
+    let e = sym (rw (c .before .before .before .choice .ensures) at (c .before .before .check-index .ensures)) ∙ ap accepted (c .enum-told .given .1) in
     answered-result e
 
 returns-2 : tie.Need-returns-2
 returns-2 c =
-    let e = sym (c .before .before .before .before .check-index .ensures) ∙ ap accepted (c .before .before .why .given .1) in
+    let e = sym (rw (c .before .before .before .before .before .choice .ensures) at (c .before .before .before .before .check-index .ensures)) ∙ ap accepted (c .before .before .why .given .1) in
     c .refused .ensures ∙ refused-result e
 
 pub crest-check-index-spec : {M : Type 1} → statement M
 crest-check-index-spec =
     tie.close
-    (tie.spec check-index-requires enum-told enum-known-why refused-requires returns returns-2)
+    (tie.spec choice-requires check-index-requires enum-told enum-known-why refused-requires returns returns-2)

@@ -3,6 +3,9 @@ use borrow.Author.Needs.{needs}
 use Rattle.capi.proofs.crest_jump_labelled.Statement.{statement}
 use Rattle.capi.proofs.crest_jump_labelled.Tie as tie
 
+choice-requires : tie.Need-choice-requires
+choice-requires c κs = search needs
+
 jump-row-requires : tie.Need-jump-row-requires
 jump-row-requires c κs = search needs
 
@@ -10,7 +13,7 @@ part-requires : tie.Need-part-requires
 part-requires c κs = search needs
 
 returns : tie.Need-returns
-returns c = rw (c .before .before .before .jump-row .ensures) at (c .part .ensures)
+returns c = rw (c .before .before .before .jump-row .ensures, c .before .before .before .before .choice .ensures) at (c .part .ensures)
 
 pub crest-jump-labelled-spec : {M : Type 1} → statement M
-crest-jump-labelled-spec = tie.close (tie.spec jump-row-requires part-requires returns)
+crest-jump-labelled-spec = tie.close (tie.spec choice-requires jump-row-requires part-requires returns)

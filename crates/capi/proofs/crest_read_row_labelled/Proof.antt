@@ -3,6 +3,9 @@ use borrow.Author.Needs.{needs}
 use Rattle.capi.proofs.crest_read_row_labelled.Statement.{statement}
 use Rattle.capi.proofs.crest_read_row_labelled.Tie as tie
 
+choice-requires : tie.Need-choice-requires
+choice-requires c κs = search needs
+
 read-row-requires : tie.Need-read-row-requires
 read-row-requires c κs = search needs
 
@@ -10,7 +13,7 @@ part-requires : tie.Need-part-requires
 part-requires c κs = search needs
 
 returns : tie.Need-returns
-returns c = rw (c .before .before .before .read-row .ensures) at (c .part .ensures)
+returns c = rw (c .before .before .before .read-row .ensures, c .before .before .before .before .choice .ensures) at (c .part .ensures)
 
 pub crest-read-row-labelled-spec : {M : Type 1} → statement M
-crest-read-row-labelled-spec = tie.close (tie.spec read-row-requires part-requires returns)
+crest-read-row-labelled-spec = tie.close (tie.spec choice-requires read-row-requires part-requires returns)

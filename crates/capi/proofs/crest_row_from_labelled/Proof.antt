@@ -3,6 +3,9 @@ use borrow.Author.Needs.{needs}
 use Rattle.capi.proofs.crest_row_from_labelled.Statement.{statement}
 use Rattle.capi.proofs.crest_row_from_labelled.Tie as tie
 
+choice-requires : tie.Need-choice-requires
+choice-requires c κs = search needs
+
 row-from-requires : tie.Need-row-from-requires
 row-from-requires c κs = search needs
 
@@ -10,7 +13,7 @@ part-requires : tie.Need-part-requires
 part-requires c κs = search needs
 
 returns : tie.Need-returns
-returns c = rw (c .before .before .before .row-from .ensures) at (c .part .ensures)
+returns c = rw (c .before .before .before .row-from .ensures, c .before .before .before .before .choice .ensures) at (c .part .ensures)
 
 pub crest-row-from-labelled-spec : {M : Type 1} → statement M
-crest-row-from-labelled-spec = tie.close (tie.spec row-from-requires part-requires returns)
+crest-row-from-labelled-spec = tie.close (tie.spec choice-requires row-from-requires part-requires returns)

@@ -27,7 +27,7 @@ is-description-requires c κs = search needs
 returns : tie.Need-returns
 returns c =
     let agency = c .before .before .before .before .is-agency .ensures ∙ ap isAgency (c .before .before .before .before .before .four-at .ensures) in
-    let form = c .before .before .is-form .ensures ∙ ap isForm (c .before .before .before .four-at2 .ensures) in
+    let form = c .before .before .is-form .ensures ∙ ap (isForm (c .before .before .before .before .before .before .before .args .version)) (c .before .before .before .four-at2 .ensures) in
     let description = c .is-description .ensures ∙ ap isDescription (c .before .four-at3 .ensures) in
     ap₂ _&&_ agency (ap₂ _&&_ form description)
 

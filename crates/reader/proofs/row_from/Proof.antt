@@ -7,14 +7,14 @@ use borrow.Author.Needs.{needs}
 use Rattle.reader.proofs.row_from.Statement.{statement}
 use Rattle.reader.proofs.row_from.Tie as tie
 
-enum-told : tie.Need-enum-told
-enum-told c = search needs
+enum-known-kind : tie.Need-enum-known-kind
+enum-known-kind c = search needs
 
 value-from-requires : tie.Need-value-from-requires
 value-from-requires c κs = search needs
 
-enum-told-2 : tie.Need-enum-told-2
-enum-told-2 c = search needs
+enum-told : tie.Need-enum-told
+enum-told c = search needs
 
 row-from-requires : tie.Need-row-from-requires
 row-from-requires c κs = search needs
@@ -22,15 +22,15 @@ row-from-requires c κs = search needs
 returns : tie.Need-returns
 unfolding rowFrom
 returns c =
-    let a = c .before .before .before .before .args in
-    c .value-from .ensures ∙ ap (λ (t : Kind). rowFrom t (now (a .file)) (a .from)) (sym (c .before .enum-told .given .1))
+    let a = c .before .before .before .before .before .args in
+    c .value-from .ensures ∙ ap (λ (t : Kind). rowFrom t (now (a .file)) (a .from)) (sym (c .before .before .kind .given .1))
 
 returns-2 : tie.Need-returns-2
 unfolding rowFrom
 returns-2 c =
     let a = c .before .before .before .before .args in
-    c .row-from .ensures ∙ ap (λ (t : Kind). rowFrom t (now (a .file)) (a .from)) (sym (c .before .enum-told2 .given .1))
+    c .row-from .ensures ∙ ap (λ (t : Kind). rowFrom t (now (a .file)) (a .from)) (sym (c .before .enum-told .given .1))
 
 pub row-from-spec : {M : Type 1} → statement M
 row-from-spec =
-    tie.close (tie.spec enum-told value-from-requires enum-told-2 row-from-requires returns returns-2)
+    tie.close (tie.spec enum-known-kind value-from-requires enum-told row-from-requires returns returns-2)

@@ -33,11 +33,11 @@ enum-known-rows c = search needs
 groups-requires : tie.Need-groups-requires
 groups-requires c κs = search needs
 
-is : (c : tie.After-rows) → checkLabelled (now (c .before .before .before .before .before .args .file)) ≡ answer (c .rows .given .0 .0)
+is : (c : tie.After-rows) → checkLabelled (c .before .before .before .before .before .args .versions) (now (c .before .before .before .before .before .args .file)) ≡ answer (c .rows .given .0 .0)
 is c = sym (c .before .before .check .ensures) ∙ ap counted (c .rows .given .1)
 
-all : (c : tie.After-groups) → length (theIndex (now (c .before .before .before .before .before .before .before .args .file))) ≡ c .groups .result
-all c = entries-counted (now (c .before .before .before .before .before .before .before .args .file)) _ (is (c .before .before)) ∙ sym (c .groups .ensures)
+all : (c : tie.After-groups) → length (theIndex (c .before .before .before .before .before .before .before .args .versions) (now (c .before .before .before .before .before .before .before .args .file))) ≡ c .groups .result
+all c = entries-counted (c .before .before .before .before .before .before .before .args .versions) (now (c .before .before .before .before .before .before .before .args .file)) _ (is (c .before .before)) ∙ sym (c .groups .ensures)
 
 -- a refusal is answered, and nothing is written
 refused : (xs : List ℕ) {o r : Outcome (List Row)} → o ≡ r → (mapped builtOf r ≡ mapped builtOf o) × (filled (mapped indexOf r) xs ≡ filled (mapped indexOf o) xs)
@@ -46,32 +46,33 @@ refused xs e = (ap (mapped builtOf) (sym e), ap (λ (r : Outcome (List Row)). fi
 returns : tie.Need-returns
 returns c =
     refused (now (c .before .before .before .before .before .before .before .before .args .list))
-    (no-room-to-build (now (c .before .before .before .before .before .before .before .before .args .file)) _ (is (c .before .before .before)) _ (omega (arith, c .before .groups .ensures, c .if1 .taken)))
+    (no-room-to-build (c .before .before .before .before .before .before .before .before .args .versions) (now (c .before .before .before .before .before .before .before .before .args .file)) _ (is (c .before .before .before)) _ (omega (arith, c .before .groups .ensures, c .if1 .taken)))
 
 write-entries-requires : tie.Need-write-entries-requires
 write-entries-requires c κs =
-    let (rows, accepted, many) = rows-counted (now (c .before .before .before .before .before .before .before .before .before .args .file)) _ (is (c .before .before .before .before)) in
-    (accepted-says (now (c .before .before .before .before .before .before .before .before .before .args .file)) rows accepted .0, le-of-eq (sym (all (c .before .before))), c .before .if1 .left)
+    let (rows, accepted, many) = rows-counted (c .before .before .before .before .before .before .before .before .before .args .versions) (now (c .before .before .before .before .before .before .before .before .before .args .file)) _ (is (c .before .before .before .before)) in
+    (accepted-says (c .before .before .before .before .before .before .before .before .before .args .versions) (now (c .before .before .before .before .before .before .before .before .before .args .file)) rows accepted .0, le-of-eq (sym (all (c .before .before))), c .before .if1 .left)
 
 returns-2 : tie.Need-returns-2
 returns-2 c =
     refused (now (c .before .before .before .before .before .before .args .list))
-    (not-built (now (c .before .before .before .before .before .before .args .file)) _ _ (sym (c .before .before .before .check .ensures) ∙ ap counted (c .before .why .given .1)) _)
+    (not-built (c .before .before .before .before .before .before .args .versions) (now (c .before .before .before .before .before .before .args .file)) _ _ (sym (c .before .before .before .check .ensures) ∙ ap counted (c .before .why .given .1)) _)
 
 same-length : tie.Need-same-length
 same-length c = search needs
 
 returns-3 : tie.Need-returns-3
 returns-3 c =
+    let v = c .before .before .before .before .before .before .before .before .before .before .before .before .args .versions in
     let f = now (c .before .before .before .before .before .before .before .before .before .before .before .before .args .file) in
     let old = now (c .before .before .before .before .before .before .before .before .before .before .before .before .args .list) in
     let entries = c .before .before .before .before .before .groups .result in
     let whole = all (c .before .before .before .before .before) in
-    let (rows, builds, index, many) = index-is-built f _ (is (c .before .before .before .before .before .before .before)) (length old) (omega (arith, c .before .before .before .before .before .groups .ensures, c .before .before .before .before .if1 .left)) in (
+    let (rows, builds, index, many) = index-is-built v f _ (is (c .before .before .before .before .before .before .before)) (length old) (omega (arith, c .before .before .before .before .before .groups .ensures, c .before .before .before .before .if1 .left)) in (
       ap₂ (λ (m n : ℕ). answer (record { entries = m; rows = n })) (sym (ap length index ∙ whole)) (sym many) ∙ ap (mapped builtOf) (sym builds),
       c .before .before .write-entries .ensures
-          ∙ ap (λ (t : List ℕ). t ++ drop entries old) (take-all entries (theIndex f) (le-of-eq whole))
-          ∙ ap (λ (m : ℕ). theIndex f ++ drop m old) (sym whole)
+          ∙ ap (λ (t : List ℕ). t ++ drop entries old) (take-all entries (theIndex v f) (le-of-eq whole))
+          ∙ ap (λ (m : ℕ). theIndex v f ++ drop m old) (sym whole)
           ∙ ap (λ (w : List ℕ). w ++ drop (length w) old) (sym index)
           ∙ ap (λ (r : Outcome (List Row)). filled (mapped indexOf r) old) (sym builds),
     )

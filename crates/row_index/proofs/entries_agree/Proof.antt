@@ -12,23 +12,24 @@ use Rattle.row_index.proofs.entries_agree.Statement.{statement}
 use Rattle.row_index.proofs.entries_agree.Tie as tie
 
 abbrev Inv : tie.InvT-loop
-Inv file list done₀ from₀ leaves₀ done from leaves = Comparing file list done from leaves
+Inv versions file list done₀ from₀ leaves₀ done from leaves = Comparing versions file list done from leaves
 
 abbrev μ : tie.MeasureT-loop
-μ file list done₀ from₀ leaves₀ done from leaves = length list - done
+μ versions file list done₀ from₀ leaves₀ done from leaves = length list - done
 
 loop-holds : tie.Need-loop-holds Inv μ
-loop-holds c = nothing-compared (now (c .before .before .args .file)) (now (c .before .before .args .list))
+loop-holds c = nothing-compared (c .before .before .args .versions) (now (c .before .before .args .file)) (now (c .before .before .args .list))
 
 entry-from-requires : tie.Need-entry-from-requires Inv μ
 entry-from-requires c κs = search needs
 
-entry : (c : tie.After-entry-from Inv μ) → Entry (now (c .before .before .before .before .before .args .file)) (c .before .before .loop .done) (c .entry-from .result)
+entry : (c : tie.After-entry-from Inv μ) → Entry (c .before .before .before .before .before .args .versions) (now (c .before .before .before .before .before .args .file)) (c .before .before .loop .done) (c .entry-from .result)
 entry c =
+    let v = c .before .before .before .before .before .args .versions in
     let f = now (c .before .before .before .before .before .args .file) in
     let w = c .before .before .loop in
-    subst (Entry f (w .done)) (sym (c .entry-from .ensures .0))
-    (entry-found f (w .done) (w .from) (w .leaves) (w .inv .at) (omega (arith, c .before .before .before .before .before .pre, c .before .loop-test .taken)))
+    subst (Entry v f (w .done)) (sym (c .entry-from .ensures .0))
+    (entry-found v f (w .done) (w .from) (w .leaves) (w .inv .at) (omega (arith, c .before .before .before .before .before .pre, c .before .loop-test .taken)))
 
 mul-if1 : tie.Need-mul-if1 Inv μ
 mul-if1 c = search needs
@@ -42,7 +43,7 @@ cast-if1 c = omega (arith, c .shared-slice-known3 .given (c .before .before .bef
 returns : tie.Need-returns Inv μ
 returns c =
     let w = c .before .before .before .before .loop in
-    sym (entry-differs (now (c .before .before .before .before .before .before .before .args .file)) (now (c .before .before .before .before .before .before .before .args .list)) (w .done) (w .from) (w .leaves) _ (w .inv) (c .before .before .before .before .before .before .before .pre) (c .before .before .before .loop-test .taken) (entry (c .before .before)) (c .if1 .taken))
+    sym (entry-differs (c .before .before .before .before .before .before .before .args .versions) (now (c .before .before .before .before .before .before .before .args .file)) (now (c .before .before .before .before .before .before .before .args .list)) (w .done) (w .from) (w .leaves) _ (w .inv) (c .before .before .before .before .before .before .before .pre) (c .before .before .before .loop-test .taken) (entry (c .before .before)) (c .if1 .taken))
 
 add-done : tie.Need-add-done Inv μ
 add-done c = omega arith
@@ -53,12 +54,12 @@ loop-less c = omega arith
 loop-again : tie.Need-loop-again Inv μ
 loop-again c =
     let w = c .before .before .before .before .loop in
-    entry-agrees (now (c .before .before .before .before .before .before .before .args .file)) (now (c .before .before .before .before .before .before .before .args .list)) (w .done) (w .from) (w .leaves) _ (w .inv) (c .before .before .before .before .before .before .before .pre) (c .before .before .before .loop-test .taken) (entry (c .before .before)) (c .if1 .left)
+    entry-agrees (c .before .before .before .before .before .before .before .args .versions) (now (c .before .before .before .before .before .before .before .args .file)) (now (c .before .before .before .before .before .before .before .args .list)) (w .done) (w .from) (w .leaves) _ (w .inv) (c .before .before .before .before .before .before .before .pre) (c .before .before .before .loop-test .taken) (entry (c .before .before)) (c .if1 .left)
 
 returns-2 : tie.Need-returns-2 Inv μ
 returns-2 c =
     let w = c .before .loop in
-    sym (all-compared (now (c .before .before .before .before .args .file)) (now (c .before .before .before .before .args .list)) (w .done) (w .from) (w .leaves) (w .inv) (c .before .before .before .before .pre) (c .loop-test .left))
+    sym (all-compared (c .before .before .before .before .args .versions) (now (c .before .before .before .before .args .file)) (now (c .before .before .before .before .args .list)) (w .done) (w .from) (w .leaves) (w .inv) (c .before .before .before .before .pre) (c .loop-test .left))
 
 pub entries-agree-spec : {M : Type 1} → statement M
 entries-agree-spec =

@@ -5,6 +5,7 @@ use mathlib.Core.List.{List}
 use lib.ListN.{length}
 use denote.Ref.{now}
 use Rattle.answer.specs.Outcome.{Outcome}
+use Rattle.label.specs.declared.Versions.{Versions}
 use Rattle.walk.specs.declared.Leaf.{Leaf}
 use Rattle.row_index.proofs.Entries.{place-found-inside}
 use Rattle.walk.specs.Walk.{walkedTo, walkFrom}
@@ -23,19 +24,19 @@ enum-told : tie.Need-enum-told
 enum-told c = search needs
 
 -- the place, and that it lies in the file
-found : (f : List ℕ) (from k : ℕ) (o : Outcome Leaf) → walkFrom f from k ≡ o
-    → (placeFound o ≡ placeFound (walkFrom f from k)) × (placeFound o ≤ length f)
-found f from k o e = (ap placeFound (sym e), subst (λ (r : Outcome Leaf). placeFound r ≤ length f) e (place-found-inside f from k))
+found : (v : Versions) (f : List ℕ) (from k : ℕ) (o : Outcome Leaf) → walkFrom v f from k ≡ o
+    → (placeFound o ≡ placeFound (walkFrom v f from k)) × (placeFound o ≤ length f)
+found v f from k o e = (ap placeFound (sym e), subst (λ (r : Outcome Leaf). placeFound r ≤ length f) e (place-found-inside v f from k))
 
 returns : tie.Need-returns
 returns c =
     let a = c .before .before .before .before .before .args in
-    found (now (a .file)) (a .from) (a .leaves) _ (sym (c .before .before .before .walk-from .ensures) ∙ ap walkedTo (c .before .leaf .given .1))
+    found (a .versions) (now (a .file)) (a .from) (a .leaves) _ (sym (c .before .before .before .walk-from .ensures) ∙ ap walkedTo (c .before .leaf .given .1))
 
 returns-2 : tie.Need-returns-2
 returns-2 c =
     let a = c .before .before .before .before .args in
-    found (now (a .file)) (a .from) (a .leaves) _ (sym (c .before .before .walk-from .ensures) ∙ ap walkedTo (c .enum-told .given .1))
+    found (a .versions) (now (a .file)) (a .from) (a .leaves) _ (sym (c .before .before .walk-from .ensures) ∙ ap walkedTo (c .enum-told .given .1))
 
 pub entry-from-spec : {M : Type 1} → statement M
 entry-from-spec =

@@ -9,10 +9,10 @@ use Rattle.row_index.proofs.jump_to.Statement.{statement}
 use Rattle.row_index.proofs.jump_to.Tie as tie
 
 returns : tie.Need-returns
-returns c = sym (too-big-to-jump (now (c .before .before .before .args .file)) (now (c .before .before .before .args .list)) _ (c .if1 .taken))
+returns c = sym (too-big-to-jump (c .before .before .before .args .versions) (now (c .before .before .before .args .file)) (now (c .before .before .before .args .list)) _ (c .if1 .taken))
 
 returns-2 : tie.Need-returns-2
-returns-2 c = sym (no-entry (now (c .before .before .before .before .args .file)) (now (c .before .before .before .before .args .list)) _ (c .before .if1 .left) (c .if2 .taken))
+returns-2 c = sym (no-entry (c .before .before .before .before .args .versions) (now (c .before .before .before .before .args .file)) (now (c .before .before .before .before .args .list)) _ (c .before .if1 .left) (c .if2 .taken))
 
 mul-entry : tie.Need-mul-entry
 mul-entry c = search needs
@@ -25,7 +25,7 @@ cast-entry c = omega (arith, c .shared-slice-known3 .given (c .before .before .b
 
 returns-3 : tie.Need-returns-3
 returns-3 c =
-    sym (entry-beyond (now (c .before .before .before .before .before .before .args .file)) (now (c .before .before .before .before .before .before .args .list)) (c .before .before .before .before .before .before .args .k) (c .before .before .before .if1 .left) (c .before .before .if2 .left) (c .if3 .taken))
+    sym (entry-beyond (c .before .before .before .before .before .before .args .versions) (now (c .before .before .before .before .before .before .args .file)) (now (c .before .before .before .before .before .before .args .list)) (c .before .before .before .before .before .before .args .k) (c .before .before .before .if1 .left) (c .before .before .if2 .left) (c .if3 .taken))
 
 value-from-requires : tie.Need-value-from-requires
 value-from-requires c κs = search needs
@@ -33,7 +33,7 @@ value-from-requires c κs = search needs
 returns-4 : tie.Need-returns-4
 returns-4 c =
     c .value-from .ensures
-    ∙ sym (jumps-from-entry (now (c .before .before .before .before .before .before .before .args .file)) (now (c .before .before .before .before .before .before .before .args .list)) (c .before .before .before .before .before .before .before .args .k) (c .before .before .before .before .if1 .left) (c .before .before .before .if2 .left) (c .before .if3 .left))
+    ∙ sym (jumps-from-entry (c .before .before .before .before .before .before .before .args .versions) (now (c .before .before .before .before .before .before .before .args .file)) (now (c .before .before .before .before .before .before .before .args .list)) (c .before .before .before .before .before .before .before .args .k) (c .before .before .before .before .if1 .left) (c .before .before .before .if2 .left) (c .before .if3 .left))
 
 pub jump-to-spec : {M : Type 1} → statement M
 jump-to-spec =

@@ -14,13 +14,13 @@ use Rattle.row_index.proofs.write_entries.Statement.{statement}
 use Rattle.row_index.proofs.write_entries.Tie as tie
 
 abbrev Inv : tie.InvT-loop
-Inv file entries list₀ i₀ from₀ leaves₀ list i from leaves = Writing file entries list₀ list i from leaves
+Inv versions file entries list₀ i₀ from₀ leaves₀ list i from leaves = Writing versions file entries list₀ list i from leaves
 
 abbrev μ : tie.MeasureT-loop
-μ file entries list₀ i₀ from₀ leaves₀ list i from leaves = length list₀ - i
+μ versions file entries list₀ i₀ from₀ leaves₀ list i from leaves = length list₀ - i
 
 loop-holds : tie.Need-loop-holds Inv μ
-loop-holds c = nothing-written (now (c .before .before .args .file)) (c .before .before .args .entries) (now (c .before .before .args .list))
+loop-holds c = nothing-written (c .before .before .args .versions) (now (c .before .before .args .file)) (c .before .before .args .entries) (now (c .before .before .args .list))
 
 -- the list keeps its length
 long : (c : tie.At-loop Inv μ) → length (c .loop .list) ≡ length (now (c .before .before .before .args .list))
@@ -28,7 +28,7 @@ long c =
     let w = c .loop in
     let pre = c .before .before .before .pre in
     ap length (w .inv .holds)
-    ∙ written-length (theIndex (now (c .before .before .before .args .file))) (now (c .before .before .before .args .list)) (w .i) (omega (arith, pre .1, w .inv .within)) (omega (arith, pre .2, w .inv .within))
+    ∙ written-length (theIndex (c .before .before .before .args .versions) (now (c .before .before .before .args .file))) (now (c .before .before .before .args .list)) (w .i) (omega (arith, pre .1, w .inv .within)) (omega (arith, pre .2, w .inv .within))
 
 entry-from-requires : tie.Need-entry-from-requires Inv μ
 entry-from-requires c κs = search needs
@@ -39,7 +39,7 @@ cast-list c =
 
 mul-list : tie.Need-mul-list Inv μ
 mul-list c =
-    scaled-fits (c .before .before .loop .i) (length (now (c .before .before .before .before .before .args .list))) 4 (omega (arith, long (c .before .before), c .before .before .before .before .before .pre .2, c .before .loop-test .taken)) (c .before .before .before .before .before .good .1 .1 .0 .1)
+    scaled-fits (c .before .before .loop .i) (length (now (c .before .before .before .before .before .args .list))) 4 (omega (arith, long (c .before .before), c .before .before .before .before .before .pre .2, c .before .loop-test .taken)) (c .before .before .before .before .before .good .1 .1 .1 .0 .1)
 
 slice-write-list : tie.Need-slice-write-list Inv μ
 slice-write-list c = omega (arith, long (c .before .before), c .before .before .before .before .before .pre .2, c .before .loop-test .taken)
@@ -52,12 +52,13 @@ loop-less c = omega (arith, long (c .before .before), c .before .before .before 
 
 loop-again : tie.Need-loop-again Inv μ
 loop-again c =
+    let v = c .before .before .before .before .before .args .versions in
     let f = now (c .before .before .before .before .before .args .file) in
     let w = c .before .before .loop in
     let pre = c .before .before .before .before .before .pre in
     let more = c .before .loop-test .taken in
-    entry-written f (c .before .before .before .before .before .args .entries) (now (c .before .before .before .before .before .args .list)) (w .list) (w .i) (w .from) (w .leaves) _ (w .inv) (pre .1) (pre .2) more
-    (subst (Entry f (w .i)) (sym (c .entry-from .ensures .0)) (entry-found f (w .i) (w .from) (w .leaves) (w .inv .at) (omega (arith, pre .1, more))))
+    entry-written v f (c .before .before .before .before .before .args .entries) (now (c .before .before .before .before .before .args .list)) (w .list) (w .i) (w .from) (w .leaves) _ (w .inv) (pre .1) (pre .2) more
+    (subst (Entry v f (w .i)) (sym (c .entry-from .ensures .0)) (entry-found v f (w .i) (w .from) (w .leaves) (w .inv .at) (omega (arith, pre .1, more))))
 
 same-length : tie.Need-same-length Inv μ
 same-length c = long (c .before)
@@ -66,7 +67,7 @@ returns : tie.Need-returns Inv μ
 returns c =
     let w = c .before .loop in
     w .inv .holds
-    ∙ ap (λ (n : ℕ). take n (theIndex (now (c .before .before .before .before .args .file))) ++ drop n (now (c .before .before .before .before .args .list))) {x = w .i} {y = c .before .before .before .before .args .entries}
+    ∙ ap (λ (n : ℕ). take n (theIndex (c .before .before .before .before .args .versions) (now (c .before .before .before .before .args .file))) ++ drop n (now (c .before .before .before .before .args .list))) {x = w .i} {y = c .before .before .before .before .args .entries}
     (omega (arith, w .inv .within, c .loop-test .left))
 
 pub write-entries-spec : {M : Type 1} → statement M

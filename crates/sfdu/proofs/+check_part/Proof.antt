@@ -20,13 +20,13 @@ use Rattle.sfdu.proofs.+check_part.{statement}
 use Rattle.sfdu.proofs.+check_part.Tie.{close}
 
 abbrev μ-call : Measures 1 kinds.ps ℕ
-μ-call κs a = a .1 .1 .0
+μ-call κs a = a .1 .1 .1 .0
 
 abbrev Inv : lts.InvT-loop
-Inv part base left at₀ rows₀ at rows = Sofar part base left at rows
+Inv versions part base left at₀ rows₀ at rows = Sofar versions part base left at rows
 
 abbrev μ : lts.MeasureT-loop
-μ part base left at₀ rows₀ at rows = length part - at
+μ versions part base left at₀ rows₀ at rows = length part - at
 
 module _ (t : ℕ) where
   -- what a call supposes at measure t, and what a call inside it may suppose
@@ -40,13 +40,13 @@ module _ (t : ℕ) where
   claims = (object-at-reads.Asked, object-at-reads.Learnt, Below, reads.Post)
 
   returns : lts.Need-returns claims Pre reads.Post Inv μ
-  returns c = no-bytes (now (c .before .before .args .part)) _ _ (c .if1 .taken)
+  returns c = no-bytes (c .before .before .args .versions) (now (c .before .before .args .part)) _ _ (c .if1 .taken)
 
   returns-2 : lts.Need-returns-2 claims Pre reads.Post Inv μ
-  returns-2 c = deepest (now (c .before .before .before .args .part)) _ _ (c .if2 .taken) (c .before .if1 .left)
+  returns-2 c = deepest (c .before .before .before .args .versions) (now (c .before .before .before .args .part)) _ _ (c .if2 .taken) (c .before .if1 .left)
 
   loop-holds : lts.Need-loop-holds claims Pre reads.Post Inv μ
-  loop-holds c = starts (now (c .before .before .before .args .part)) _ _ (omega (arith, c .if2 .left))
+  loop-holds c = starts (c .before .before .before .args .versions) (now (c .before .before .before .args .part)) _ _ (omega (arith, c .if2 .left))
 
   object-at-requires : lts.Need-object-at-requires claims Pre reads.Post Inv μ
   object-at-requires c κs = c .loop-test .taken
@@ -63,8 +63,8 @@ module _ (t : ℕ) where
   returns-3 c =
       let P = now (c .before .before .before .before .before .before .before .before .before .args .part) in
       let w = c .before .before .before .before .before .loop in
-      let (place, e) = subst (Stands P (w .at)) (c .before .why .given .1) (c .before .before .before .object-at .ensures) in
-      faulty P _ _ (w .at) (w .rows) (w .inv) (c .before .before .before .before .loop-test .taken) _ place e
+      let (place, e) = subst (Stands (c .before .before .before .before .before .before .before .before .before .args .versions) P (w .at)) (c .before .why .given .1) (c .before .before .before .object-at .ensures) in
+      faulty (c .before .before .before .before .before .before .before .before .before .args .versions) P _ _ (w .at) (w .rows) (w .inv) (c .before .before .before .before .loop-test .taken) _ place e
 
   -- ---- a leaf
 
@@ -72,8 +72,8 @@ module _ (t : ℕ) where
   enum-known-next c = search needs
 
   leaf : (c : lts.After-known-told2 claims Pre reads.Post Inv μ)
-      → ObjectAt (now (c .before .before .before .before .before .before .before .before .before .args .part)) (c .before .before .before .before .before .loop .at) false (c .before .next .given .0 .0)
-  leaf c = subst (Stands (now (c .before .before .before .before .before .before .before .before .before .args .part)) (c .before .before .before .before .before .loop .at)) (c .before .next .given .1) (c .before .before .before .object-at .ensures)
+      → ObjectAt (c .before .before .before .before .before .before .before .before .before .args .versions) (now (c .before .before .before .before .before .before .before .before .before .args .part)) (c .before .before .before .before .before .loop .at) false (c .before .next .given .0 .0)
+  leaf c = subst (Stands (c .before .before .before .before .before .before .before .before .before .args .versions) (now (c .before .before .before .before .before .before .before .before .before .args .part)) (c .before .before .before .before .before .loop .at)) (c .before .next .given .1) (c .before .before .before .object-at .ensures)
 
   add-rows : lts.Need-add-rows claims Pre reads.Post Inv μ
   add-rows c = omega (arith, c .before .before .before .before .before .before .before .before .before .pre .1, c .before .before .before .before .before .loop .inv .few, c .before .before .before .before .loop-test .taken)
@@ -84,7 +84,7 @@ module _ (t : ℕ) where
   loop-again : lts.Need-loop-again claims Pre reads.Post Inv μ
   loop-again c =
       let w = c .before .before .before .before .before .loop in
-      leaf-passed (now (c .before .before .before .before .before .before .before .before .before .args .part)) _ _ (w .at) (w .rows) (w .inv) (c .before .before .before .before .loop-test .taken) _ (leaf c)
+      leaf-passed (c .before .before .before .before .before .before .before .before .before .args .versions) (now (c .before .before .before .before .before .before .before .before .before .args .part)) _ _ (w .at) (w .rows) (w .inv) (c .before .before .before .before .loop-test .taken) _ (leaf c)
 
   -- ---- an opened object
 
@@ -92,8 +92,8 @@ module _ (t : ℕ) where
   enum-known-end c = search needs
 
   group : (c : lts.After-known-told3 claims Pre reads.Post Inv μ)
-      → ObjectAt (now (c .before .before .before .before .before .before .before .before .before .args .part)) (c .before .before .before .before .before .loop .at) true (c .before .end .given .0 .0)
-  group c = subst (Stands (now (c .before .before .before .before .before .before .before .before .before .args .part)) (c .before .before .before .before .before .loop .at)) (c .before .end .given .1) (c .before .before .before .object-at .ensures)
+      → ObjectAt (c .before .before .before .before .before .before .before .before .before .args .versions) (now (c .before .before .before .before .before .before .before .before .before .args .part)) (c .before .before .before .before .before .loop .at) true (c .before .end .given .0 .0)
+  group c = subst (Stands (c .before .before .before .before .before .before .before .before .before .args .versions) (now (c .before .before .before .before .before .before .before .before .before .args .part)) (c .before .before .before .before .before .loop .at)) (c .before .end .given .1) (c .before .before .before .object-at .ensures)
 
   add-body : lts.Need-add-body claims Pre reads.Post Inv μ
   add-body c = omega (arith, c .before .before .before .before .before .before .before .before .before .pre .1, group c .ends, group c .inside)
@@ -124,18 +124,18 @@ module _ (t : ℕ) where
   returns-4 : lts.Need-returns-4 claims Pre reads.Post Inv μ
   returns-4 c =
       let w = c .before .before .before .before .before .before .before .before .before .before .loop in
-      group-faulty (now (c .before .before .before .before .before .before .before .before .before .before .before .before .before .before .args .part)) _ _ (w .at) (w .rows) (w .inv) (c .before .before .before .before .before .before .before .before .before .loop-test .taken) _ (group (c .before .before .before .before .before)) _ _
-      (subst (Checked _ _ _) (ap counted (c .before .why2 .given .1)) (c .before .before .before .check-part .ensures))
+      group-faulty (c .before .before .before .before .before .before .before .before .before .before .before .before .before .before .args .versions) (now (c .before .before .before .before .before .before .before .before .before .before .before .before .before .before .args .part)) _ _ (w .at) (w .rows) (w .inv) (c .before .before .before .before .before .before .before .before .before .loop-test .taken) _ (group (c .before .before .before .before .before)) _ _
+      (subst (Checked _ _ _ _) (ap counted (c .before .why2 .given .1)) (c .before .before .before .check-part .ensures))
 
   enum-known-n : lts.Need-enum-known-n claims Pre reads.Post Inv μ
   enum-known-n c = search needs
 
   passed : (c : lts.After-known-told5 claims Pre reads.Post Inv μ)
-      → Sofar (now (c .before .before .before .before .before .before .before .before .before .before .before .before .before .before .args .part)) (c .before .before .before .before .before .before .before .before .before .before .before .before .before .before .args .base) (c .before .before .before .before .before .before .before .before .before .before .before .before .before .before .args .left) (c .before .before .before .before .before .before .end .given .0 .0) (c .before .before .before .before .before .before .before .before .before .before .loop .rows + c .before .n .given .0 .0)
+      → Sofar (c .before .before .before .before .before .before .before .before .before .before .before .before .before .before .args .versions) (now (c .before .before .before .before .before .before .before .before .before .before .before .before .before .before .args .part)) (c .before .before .before .before .before .before .before .before .before .before .before .before .before .before .args .base) (c .before .before .before .before .before .before .before .before .before .before .before .before .before .before .args .left) (c .before .before .before .before .before .before .end .given .0 .0) (c .before .before .before .before .before .before .before .before .before .before .loop .rows + c .before .n .given .0 .0)
   passed c =
       let w = c .before .before .before .before .before .before .before .before .before .before .loop in
-      group-passed (now (c .before .before .before .before .before .before .before .before .before .before .before .before .before .before .args .part)) _ _ (w .at) (w .rows) (w .inv) (c .before .before .before .before .before .before .before .before .before .loop-test .taken) _ (group (c .before .before .before .before .before)) _
-      (subst (Checked _ _ _) (ap counted (c .before .n .given .1)) (c .before .before .before .check-part .ensures))
+      group-passed (c .before .before .before .before .before .before .before .before .before .before .before .before .before .before .args .versions) (now (c .before .before .before .before .before .before .before .before .before .before .before .before .before .before .args .part)) _ _ (w .at) (w .rows) (w .inv) (c .before .before .before .before .before .before .before .before .before .loop-test .taken) _ (group (c .before .before .before .before .before)) _
+      (subst (Checked _ _ _ _) (ap counted (c .before .n .given .1)) (c .before .before .before .check-part .ensures))
 
   add-rows-2 : lts.Need-add-rows-2 claims Pre reads.Post Inv μ
   add-rows-2 c = omega (arith, c .before .before .before .before .before .before .before .before .before .before .before .before .before .before .pre .1, passed c .few, passed c .within)
@@ -153,7 +153,7 @@ module _ (t : ℕ) where
   returns-5 : lts.Need-returns-5 claims Pre reads.Post Inv μ
   returns-5 c =
       let w = c .before .loop in
-      ends (now (c .before .before .before .before .before .args .part)) _ _ (w .at) (w .rows) (w .inv) (c .loop-test .left)
+      ends (c .before .before .before .before .before .args .versions) (now (c .before .before .before .before .before .args .part)) _ _ (w .at) (w .rows) (w .inv) (c .loop-test .left)
 
 pub +check-part-spec : {M : Type 1} → statement M
 +check-part-spec = close μ-call λ t. lts.spec (claims t) (Pre t) reads.Post Inv μ

@@ -7,14 +7,14 @@ use Rattle.sfdu.proofs.check.Statement.{statement}
 use Rattle.sfdu.proofs.check.Tie as tie
 
 returns : tie.Need-returns
-returns c = sym (too-big-to-check (now (c .before .before .args .file)) (c .if1 .taken))
+returns c = sym (too-big-to-check (c .before .before .args .versions) (now (c .before .before .args .file)) (c .if1 .taken))
 
 check-part-requires : tie.Need-check-part-requires
 check-part-requires c κs = search needs
 
 returns-2 : tie.Need-returns-2
 returns-2 c =
-    whole-file (now (c .before .before .before .args .file)) _ (c .before .if1 .left) (c .check-part .ensures)
+    whole-file (c .before .before .before .args .versions) (now (c .before .before .before .args .file)) _ (c .before .if1 .left) (c .check-part .ensures)
 
 pub check-spec : {M : Type 1} → statement M
 check-spec = tie.close (tie.spec returns check-part-requires returns-2)

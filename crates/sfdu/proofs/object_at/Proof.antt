@@ -9,6 +9,7 @@ use denote.Ref.{now}
 use Rattle.answer.specs.Outcome.{Outcome, answer, refuse}
 use Rattle.answer.proofs.Parts.{all-that-is-left}
 use Rattle.label.specs.declared.Label.{Label}
+use Rattle.label.specs.declared.Versions.{Versions}
 use Rattle.label.specs.Label.{told, readLabel}
 use Rattle.label.specs.Opened.{isOpened}
 use Rattle.label.proofs.Reading.{read-has-20-bytes}
@@ -19,25 +20,27 @@ use borrow.Author.Needs.{needs}
 use Rattle.sfdu.proofs.object_at.Statement.{statement}
 use Rattle.sfdu.proofs.object_at.Tie as tie
 
--- what was read of `&part[at..]` is what stands at that place of the part
-seen : (part : List ℕ) (at : ℕ) {o : Outcome Label} → o ≡ readLabel (take (length part - at) (drop at part)) → readLabel (drop at part) ≡ o
-seen part at e = ap readLabel (sym (all-that-is-left part at)) ∙ sym e
+module _ (versions : Versions) (part : List ℕ) (at : ℕ) where
+  -- what was read of `&part[at..]` is what stands at that place of the part
+  seen : {o : Outcome Label} → o ≡ readLabel versions (take (length part - at) (drop at part)) → readLabel versions (drop at part) ≡ o
+  seen e = ap (readLabel versions) (sym (all-that-is-left part at)) ∙ sym e
 
-module _ (part : List ℕ) (at : ℕ) (l : Label) (reads : readLabel (drop at part) ≡ answer l) where
-  long : at + 20 ≤ length part
-  long = omega (arith, length-drop at part, read-has-20-bytes (drop at part) l reads)
+  module _ (l : Label) (reads : readLabel versions (drop at part) ≡ answer l) where
+    long : at + 20 ≤ length part
+    long = omega (arith, length-drop at part, read-has-20-bytes versions (drop at part) l reads)
 
-  overruns : length part - (at + 20) < l .length → object (drop at part) ≡ refuse 4 0
-  overruns h = value-too-long (drop at part) l reads (omega (arith, length-drop at part))
+    overruns : length part - (at + 20) < l .length → object versions (drop at part) ≡ refuse 4 0
+    overruns h = value-too-long versions (drop at part) l reads (omega (arith, length-drop at part))
 
-  stands : (opened : Bool) → l .length ≤ length part - (at + 20) → isOpened (l .class) ≡ opened → ObjectAt part at opened (at + 20 + l .length)
-  stands opened h class = record {
-    label = l;
-    is = takes (drop at part) l reads (omega (arith, length-drop at part));
-    class = class;
-    ends = omega arith;
-    inside = omega (arith, long);
-  }
+    stands : (opened : Bool) → l .length ≤ length part - (at + 20) → isOpened (l .class) ≡ opened
+        → ObjectAt versions part at opened (at + 20 + l .length)
+    stands opened h class = record {
+      label = l;
+      is = takes versions (drop at part) l reads (omega (arith, length-drop at part));
+      class = class;
+      ends = omega arith;
+      inside = omega (arith, long);
+    }
 
 sub-read-label : tie.Need-sub-read-label
 sub-read-label c = search needs
@@ -64,14 +67,14 @@ sub-room : tie.Need-sub-room
 sub-room c =
     let a = c .before .before .before .before .before .before .args in
     let l = c .before .l .given in
-    long (now (a .part)) (a .at) (l .0 .0) (seen (now (a .part)) (a .at) (ap told (sym (l .1)) ∙ c .before .before .before .read-label .ensures))
+    long (a .versions) (now (a .part)) (a .at) (l .0 .0) (seen (a .versions) (now (a .part)) (a .at) (ap told (sym (l .1)) ∙ c .before .before .before .read-label .ensures))
 
 returns : tie.Need-returns
 returns c =
     let a = c .before .before .before .before .before .before .before .before .args in
     let l = c .before .before .before .l .given in
-    let reads = seen (now (a .part)) (a .at) (ap told (sym (l .1)) ∙ c .before .before .before .before .before .read-label .ensures) in
-    (0, overruns (now (a .part)) (a .at) (l .0 .0) reads (c .if1 .taken))
+    let reads = seen (a .versions) (now (a .part)) (a .at) (ap told (sym (l .1)) ∙ c .before .before .before .before .before .read-label .ensures) in
+    (0, overruns (a .versions) (now (a .part)) (a .at) (l .0 .0) reads (c .if1 .taken))
 
 add-end : tie.Need-add-end
 add-end c = search needs
@@ -83,21 +86,21 @@ returns-2 : tie.Need-returns-2
 returns-2 c =
     let a = c .before .before .before .before .before .before .before .before .before .before .before .args in
     let l = c .before .before .before .before .before .before .l .given in
-    let reads = seen (now (a .part)) (a .at) (ap told (sym (l .1)) ∙ c .before .before .before .before .before .before .before .before .read-label .ensures) in
-    stands (now (a .part)) (a .at) (l .0 .0) reads _ (c .before .before .before .if1 .left) (sym (c .before .is-opened .ensures) ∙ c .if2 .taken)
+    let reads = seen (a .versions) (now (a .part)) (a .at) (ap told (sym (l .1)) ∙ c .before .before .before .before .before .before .before .before .read-label .ensures) in
+    stands (a .versions) (now (a .part)) (a .at) (l .0 .0) reads _ (c .before .before .before .if1 .left) (sym (c .before .is-opened .ensures) ∙ c .if2 .taken)
 
 returns-3 : tie.Need-returns-3
 returns-3 c =
     let a = c .before .before .before .before .before .before .args in
     let why = c .before .why .given in
-    (_, label-not-read (drop (a .at) (now (a .part))) _ _ (seen (now (a .part)) (a .at) (ap told (sym (why .1)) ∙ c .before .before .before .read-label .ensures)))
+    (_, label-not-read (a .versions) (drop (a .at) (now (a .part))) _ _ (seen (a .versions) (now (a .part)) (a .at) (ap told (sym (why .1)) ∙ c .before .before .before .read-label .ensures)))
 
 returns-4 : tie.Need-returns-4
 returns-4 c =
     let a = c .before .before .before .before .before .before .before .before .before .before .before .args in
     let l = c .before .before .before .before .before .before .l .given in
-    let reads = seen (now (a .part)) (a .at) (ap told (sym (l .1)) ∙ c .before .before .before .before .before .before .before .before .read-label .ensures) in
-    stands (now (a .part)) (a .at) (l .0 .0) reads _ (c .before .before .before .if1 .left) (sym (c .before .is-opened .ensures) ∙ c .if2 .left)
+    let reads = seen (a .versions) (now (a .part)) (a .at) (ap told (sym (l .1)) ∙ c .before .before .before .before .before .before .before .before .read-label .ensures) in
+    stands (a .versions) (now (a .part)) (a .at) (l .0 .0) reads _ (c .before .before .before .if1 .left) (sym (c .before .is-opened .ensures) ∙ c .if2 .left)
 
 pub object-at-spec : {M : Type 1} → statement M
 object-at-spec =

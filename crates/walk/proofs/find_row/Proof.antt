@@ -22,11 +22,11 @@ enum-known-why c = search needs
 returns : tie.Need-returns
 returns c =
     c .value-from .ensures
-    ∙ checked-file-is-walked (now (c .before .before .before .before .before .args .file)) (c .before .before .before .before .before .args .k) _ (sym (c .before .before .before .check .ensures) ∙ ap counted (c .before .enum-told .given .1))
+    ∙ checked-file-is-walked (c .before .before .before .before .before .args .versions) (now (c .before .before .before .before .before .args .file)) (c .before .before .before .before .before .args .k) _ (sym (c .before .before .before .check .ensures) ∙ ap counted (c .before .enum-told .given .1))
 
 returns-2 : tie.Need-returns-2
 returns-2 c =
-    sym (refused-as-the-check (now (c .before .before .before .before .before .args .file)) (c .before .before .before .before .before .args .k) _ _ (sym (c .before .before .before .check .ensures) ∙ ap counted (c .before .why .given .1)))
+    sym (refused-as-the-check (c .before .before .before .before .before .args .versions) (now (c .before .before .before .before .before .args .file)) (c .before .before .before .before .before .args .k) _ _ (sym (c .before .before .before .check .ensures) ∙ ap counted (c .before .why .given .1)))
 
 pub find-row-spec : {M : Type 1} → statement M
 find-row-spec =

@@ -22,22 +22,22 @@ is-opened-requires c κs = search needs
 
 returns : tie.Need-returns
 returns c =
-    sym (step-opened (now (c .before .before .before .before .before .before .before .args .s)) (c .before .before .before .l .given .0 .0) (sym (c .before .before .before .before .before .read-label .ensures) ∙ ap told (c .before .before .before .l .given .1)) (sym (c .before .is-opened .ensures) ∙ c .if1 .taken))
+    sym (step-opened (c .before .before .before .before .before .before .before .args .versions) (now (c .before .before .before .before .before .before .before .args .s)) (c .before .before .before .l .given .0 .0) (sym (c .before .before .before .before .before .read-label .ensures) ∙ ap told (c .before .before .before .l .given .1)) (sym (c .before .is-opened .ensures) ∙ c .if1 .taken))
 
 sub-left : tie.Need-sub-left
-sub-left c = read-has-20-bytes (now (c .before .before .before .before .before .before .before .args .s)) (c .before .before .before .l .given .0 .0) (sym (c .before .before .before .before .before .read-label .ensures) ∙ ap told (c .before .before .before .l .given .1))
+sub-left c = read-has-20-bytes (c .before .before .before .before .before .before .before .args .versions) (now (c .before .before .before .before .before .before .before .args .s)) (c .before .before .before .l .given .0 .0) (sym (c .before .before .before .before .before .read-label .ensures) ∙ ap told (c .before .before .before .l .given .1))
 
 returns-2 : tie.Need-returns-2
 returns-2 c =
-    sym (step-too-long (now (c .before .before .before .before .before .before .before .before .before .args .s)) (c .before .before .before .before .before .l .given .0 .0) (sym (c .before .before .before .before .before .before .before .read-label .ensures) ∙ ap told (c .before .before .before .before .before .l .given .1)) (sym (c .before .before .before .is-opened .ensures) ∙ c .before .before .if1 .left) (c .if2 .taken))
+    sym (step-too-long (c .before .before .before .before .before .before .before .before .before .args .versions) (now (c .before .before .before .before .before .before .before .before .before .args .s)) (c .before .before .before .before .before .l .given .0 .0) (sym (c .before .before .before .before .before .before .before .read-label .ensures) ∙ ap told (c .before .before .before .before .before .l .given .1)) (sym (c .before .before .before .is-opened .ensures) ∙ c .before .before .if1 .left) (c .if2 .taken))
 
 returns-3 : tie.Need-returns-3
 returns-3 c =
-    sym (step-not-read (now (c .before .before .before .before .before .args .s)) _ _ (sym (c .before .before .before .read-label .ensures) ∙ ap told (c .before .why .given .1)))
+    sym (step-not-read (c .before .before .before .before .before .args .versions) (now (c .before .before .before .before .before .args .s)) _ _ (sym (c .before .before .before .read-label .ensures) ∙ ap told (c .before .why .given .1)))
 
 returns-4 : tie.Need-returns-4
 returns-4 c =
-    sym (step-leaf (now (c .before .before .before .before .before .before .before .before .before .args .s)) (c .before .before .before .before .before .l .given .0 .0) (sym (c .before .before .before .before .before .before .before .read-label .ensures) ∙ ap told (c .before .before .before .before .before .l .given .1)) (sym (c .before .before .before .is-opened .ensures) ∙ c .before .before .if1 .left) (c .if2 .left))
+    sym (step-leaf (c .before .before .before .before .before .before .before .before .before .args .versions) (now (c .before .before .before .before .before .before .before .before .before .args .s)) (c .before .before .before .before .before .l .given .0 .0) (sym (c .before .before .before .before .before .before .before .read-label .ensures) ∙ ap told (c .before .before .before .before .before .l .given .1)) (sym (c .before .before .before .is-opened .ensures) ∙ c .before .before .if1 .left) (c .if2 .left))
 
 pub step-at-spec : {M : Type 1} → statement M
 step-at-spec =

@@ -18,7 +18,7 @@ enum-known-leaf : tie.Need-enum-known-leaf
 enum-known-leaf c = search needs
 
 add-value : tie.Need-add-value
-add-value c = omega (arith, walked-value-fits (now (c .before .before .before .before .before .before .args .file)) (c .before .before .before .before .before .before .args .from) (c .before .before .before .before .before .before .args .leaves) (c .before .before .leaf .given .0 .0) (sym (c .before .before .before .before .walk-from .ensures) ∙ ap walkedTo (c .before .before .leaf .given .1)))
+add-value c = omega (arith, walked-value-fits (c .before .before .before .before .before .before .args .versions) (now (c .before .before .before .before .before .before .args .file)) (c .before .before .before .before .before .before .args .from) (c .before .before .before .before .before .before .args .leaves) (c .before .before .leaf .given .0 .0) (sym (c .before .before .before .before .walk-from .ensures) ∙ ap walkedTo (c .before .before .leaf .given .1)))
 
 enum-known-why : tie.Need-enum-known-why
 enum-known-why c = search needs

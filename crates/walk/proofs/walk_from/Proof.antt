@@ -15,19 +15,19 @@ use Rattle.walk.proofs.walk_from.Statement.{statement}
 use Rattle.walk.proofs.walk_from.Tie as tie
 
 abbrev Inv : tie.InvT-loop
-Inv file from leaves at₀ k₀ at k = OnTheWay file from leaves at k
+Inv versions file from leaves at₀ k₀ at k = OnTheWay versions file from leaves at k
 
 abbrev μ : tie.MeasureT-loop
-μ file from leaves at₀ k₀ at k = length file - at
+μ versions file from leaves at₀ k₀ at k = length file - at
 
 returns : tie.Need-returns Inv μ
-returns c = sym (too-big-to-walk (now (c .before .before .args .file)) _ _ (c .if1 .taken))
+returns c = sym (too-big-to-walk (c .before .before .args .versions) (now (c .before .before .args .file)) _ _ (c .if1 .taken))
 
 returns-2 : tie.Need-returns-2 Inv μ
-returns-2 c = sym (place-beyond (now (c .before .before .before .args .file)) _ _ (c .before .if1 .left) (c .if2 .taken))
+returns-2 c = sym (place-beyond (c .before .before .before .args .versions) (now (c .before .before .before .args .file)) _ _ (c .before .if1 .left) (c .if2 .taken))
 
 loop-holds : tie.Need-loop-holds Inv μ
-loop-holds c = sets-out (now (c .before .before .before .args .file)) _ _ (c .before .if1 .left) (c .if2 .left)
+loop-holds c = sets-out (c .before .before .before .args .versions) (now (c .before .before .before .args .file)) _ _ (c .before .if1 .left) (c .if2 .left)
 
 sub-step-at : tie.Need-sub-step-at Inv μ
 sub-step-at c = omega arith
@@ -48,10 +48,11 @@ enum-known-why c = search needs
 
 returns-3 : tie.Need-returns-3 Inv μ
 returns-3 c =
-    let f = now (c .before .before .before .before .before .before .before .before .before .before .args .file) in
+    let a = c .before .before .before .before .before .before .before .before .before .before .args in
+    let f = now (a .file) in
     let w = c .before .before .before .before .before .before .loop in
-    sym (meets-a-fault f _ _ (w .at) (w .k) (w .inv) (c .before .before .before .before .before .loop-test .taken) _ _
-    (step-seen f (w .at) (ap stepped (sym (c .before .why .given .1)) ∙ c .before .before .before .step-at .ensures)))
+    sym (meets-a-fault (a .versions) f _ _ (w .at) (w .k) (w .inv) (c .before .before .before .before .before .loop-test .taken) _ _
+    (step-seen (a .versions) f (w .at) (ap stepped (sym (c .before .why .given .1)) ∙ c .before .before .before .step-at .ensures)))
 
 -- ---- an opened label
 
@@ -59,12 +60,13 @@ enum-told : tie.Need-enum-told Inv μ
 enum-told c = search needs
 
 opened : (c : tie.After-enum-told Inv μ)
-    → OnTheWay (now (c .before .before .before .before .before .before .before .before .before .args .file)) (c .before .before .before .before .before .before .before .before .before .args .from) (c .before .before .before .before .before .before .before .before .before .args .leaves) (c .before .before .before .before .before .loop .at + 20) (c .before .before .before .before .before .loop .k)
+    → OnTheWay (c .before .before .before .before .before .before .before .before .before .args .versions) (now (c .before .before .before .before .before .before .before .before .before .args .file)) (c .before .before .before .before .before .before .before .before .before .args .from) (c .before .before .before .before .before .before .before .before .before .args .leaves) (c .before .before .before .before .before .loop .at + 20) (c .before .before .before .before .before .loop .k)
 opened c =
-    let f = now (c .before .before .before .before .before .before .before .before .before .args .file) in
+    let a = c .before .before .before .before .before .before .before .before .before .args in
+    let f = now (a .file) in
     let w = c .before .before .before .before .before .loop in
-    steps-in f _ _ (w .at) (w .k) (w .inv) (c .before .before .before .before .loop-test .taken)
-    (step-seen f (w .at) (ap stepped (sym (c .enum-told .given .1)) ∙ c .before .before .step-at .ensures))
+    steps-in (a .versions) f _ _ (w .at) (w .k) (w .inv) (c .before .before .before .before .loop-test .taken)
+    (step-seen (a .versions) f (w .at) (ap stepped (sym (c .enum-told .given .1)) ∙ c .before .before .step-at .ensures))
 
 add-at : tie.Need-add-at Inv μ
 add-at c = omega (arith, opened c .within)
@@ -80,20 +82,20 @@ loop-again c = opened c
 enum-known-found : tie.Need-enum-known-found Inv μ
 enum-known-found c = search needs
 
-leaf : (c : tie.After-found Inv μ) → stepAt (drop (c .before .before .before .before .before .loop .at) (now (c .before .before .before .before .before .before .before .before .before .args .file))) ≡ answer (some (c .found .given .0 .0))
+leaf : (c : tie.After-found Inv μ) → stepAt (c .before .before .before .before .before .before .before .before .before .args .versions) (drop (c .before .before .before .before .before .loop .at) (now (c .before .before .before .before .before .before .before .before .before .args .file))) ≡ answer (some (c .found .given .0 .0))
 leaf c =
-    step-seen (now (c .before .before .before .before .before .before .before .before .before .args .file)) (c .before .before .before .before .before .loop .at)
+    step-seen (c .before .before .before .before .before .before .before .before .before .args .versions) (now (c .before .before .before .before .before .before .before .before .before .args .file)) (c .before .before .before .before .before .loop .at)
     (ap stepped (sym (c .found .given .1)) ∙ c .before .before .step-at .ensures)
 
 inside : (c : tie.After-found Inv μ) → c .before .before .before .before .before .loop .at + 20 + c .found .given .0 .0 .length ≤ length (now (c .before .before .before .before .before .before .before .before .before .args .file))
 inside c =
     let w = c .before .before .before .before .before .loop in
-    leaf-inside (now (c .before .before .before .before .before .before .before .before .before .args .file)) _ _ (w .at) (w .k) (w .inv) (c .before .before .before .before .loop-test .taken) _ (leaf c)
+    leaf-inside (c .before .before .before .before .before .before .before .before .before .args .versions) (now (c .before .before .before .before .before .before .before .before .before .args .file)) _ _ (w .at) (w .k) (w .inv) (c .before .before .before .before .loop-test .taken) _ (leaf c)
 
 returns-4 : tie.Need-returns-4 Inv μ
 returns-4 c =
     let w = c .before .before .before .before .before .before .before .loop in
-    sym (arrives (now (c .before .before .before .before .before .before .before .before .before .before .before .args .file)) _ _ (w .at) (w .k) (w .inv) (c .before .before .before .before .before .before .loop-test .taken) _ (leaf (c .before .before)) (c .if3 .taken))
+    sym (arrives (c .before .before .before .before .before .before .before .before .before .before .before .args .versions) (now (c .before .before .before .before .before .before .before .before .before .before .before .args .file)) _ _ (w .at) (w .k) (w .inv) (c .before .before .before .before .before .before .loop-test .taken) _ (leaf (c .before .before)) (c .if3 .taken))
 
 sub-k : tie.Need-sub-k Inv μ
 sub-k c = omega arith
@@ -110,14 +112,14 @@ loop-less-2 c = omega (arith, inside (c .before .before .before))
 loop-again-2 : tie.Need-loop-again-2 Inv μ
 loop-again-2 c =
     let w = c .before .before .before .before .before .before .before .before .loop in
-    steps-over (now (c .before .before .before .before .before .before .before .before .before .before .before .before .args .file)) _ _ (w .at) (w .k) (w .inv) (c .before .before .before .before .before .before .before .loop-test .taken) _ (leaf (c .before .before .before)) (c .before .if3 .left)
+    steps-over (c .before .before .before .before .before .before .before .before .before .before .before .before .args .versions) (now (c .before .before .before .before .before .before .before .before .before .before .before .before .args .file)) _ _ (w .at) (w .k) (w .inv) (c .before .before .before .before .before .before .before .loop-test .taken) _ (leaf (c .before .before .before)) (c .before .if3 .left)
 
 -- ---- the end of the file
 
 returns-5 : tie.Need-returns-5 Inv μ
 returns-5 c =
     let w = c .before .loop in
-    sym (comes-to-the-end (now (c .before .before .before .before .before .args .file)) _ _ (w .at) (w .k) (w .inv) (c .loop-test .left))
+    sym (comes-to-the-end (c .before .before .before .before .before .args .versions) (now (c .before .before .before .before .before .args .file)) _ _ (w .at) (w .k) (w .inv) (c .loop-test .left))
 
 pub walk-from-spec : {M : Type 1} → statement M
 walk-from-spec =

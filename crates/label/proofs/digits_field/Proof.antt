@@ -1,4 +1,4 @@
--- `label::length_field` meets its contract: eight digits are the whole field (`digits-alone`); else the digits stand behind the
+-- `label::digits_field` meets its contract: eight digits are the whole field (`digits-alone`); else the digits stand behind the
 -- spaces that were counted.
 use Prim.Native.Nat.{ℕ, _+_}
 use mathlib.Core.Path.{_≡_, _∙_, sym, ap}
@@ -6,15 +6,16 @@ use mathlib.Core.List.{List}
 use lib.ListN.{drop}
 use lib.Seq.{drop-drop}
 use denote.Ref.{now}
+use Rattle.label.specs.declared.Version.the-variants.{One}
 use Rattle.label.specs.Length.{spacesIn, numberIn, after, lengthOf}
 use Rattle.label.specs.Private.{fieldRead}
 use Rattle.label.proofs.Spaces.{digits-alone}
 use borrow.Author.Needs.{needs}
-use Rattle.label.proofs.length_field.Statement.{statement}
-use Rattle.label.proofs.length_field.Tie as tie
+use Rattle.label.proofs.digits_field.Statement.{statement}
+use Rattle.label.proofs.digits_field.Tie as tie
 
 -- the rule, with so many spaces
-with-spaces : (b : List ℕ) (k : ℕ) → k ≡ spacesIn (drop 12 b) → after k (numberIn (drop (12 + k) b)) ≡ lengthOf (drop 12 b)
+with-spaces : (b : List ℕ) (k : ℕ) → k ≡ spacesIn (drop 12 b) → after k (numberIn (drop (12 + k) b)) ≡ lengthOf One (drop 12 b)
 with-spaces b k e =
     ap (λ (xs : List ℕ). after k (numberIn xs)) (sym (drop-drop k 12 b))
     ∙ ap (λ (j : ℕ). after j (numberIn (drop j (drop 12 b)))) e
@@ -44,8 +45,8 @@ returns-2 c =
     c .digits-after2 .ensures
     ∙ with-spaces (now (c .before .before .before .before .before .before .args .b)) (c .before .spaces-in .result) (c .before .spaces-in .ensures .0)
 
-pub length-field-spec : {M : Type 1} → statement M
-length-field-spec =
+pub digits-field-spec : {M : Type 1} → statement M
+digits-field-spec =
     tie.close
     (tie.spec
     digits-after-requires

@@ -1,0 +1,33 @@
+-- The choice of versions: told version 1 only, the reader is the old one; told both, byte 4 decides.
+use Prim.Native.Nat.{ℕ}
+use native.Mathlib.Omega.{arith}
+use mathlib.Core.Path.{_≡_, _∙_, ap}
+use mathlib.Core.List.{List}
+use lib.ListN.{length, getD, take}
+use lib.Seq.{getD-take}
+use lib.Dec.{leb}
+use Rattle.answer.specs.Outcome.{need}
+use Rattle.label.specs.declared.Version.{Version}
+use Rattle.label.specs.declared.Version.the-variants.{One, Two}
+use Rattle.label.specs.declared.Versions.{Versions}
+use Rattle.label.specs.declared.Versions.the-variants as choice
+use Rattle.label.specs.Version.{versionFor}
+use Rattle.label.specs.Label.{labelAs, readLabel}
+use Rattle.label.specs.Choice.{Choice}
+use Rattle.label.proofs.ByteFour.{only-one, says-two, says-not-two}
+
+module _ (s : List ℕ) where
+  -- the label's bytes are read as the version that the choice gives for byte 4
+  read-by : (versions : Versions) (version : Version) → versionFor versions (getD s 4 0) ≡ version
+      → readLabel versions s ≡ need (leb 20 (length s)) 1 (labelAs version (take 20 s))
+  unfolding readLabel
+  read-by versions version e =
+      ap (λ (v : Version). need (leb 20 (length s)) 1 (labelAs v (take 20 s)))
+      (ap (versionFor versions) (getD-take 20 s 4 0 (omega arith)) ∙ e)
+
+  pub the-choice : Choice s
+  the-choice = record {
+    old-answers = read-by choice.One One (only-one (getD s 4 0));
+    version-2 = λ h. read-by choice.OneAndTwo Two (says-two (getD s 4 0) h);
+    others = λ h. read-by choice.OneAndTwo One (says-not-two choice.OneAndTwo (getD s 4 0) h);
+  }
