@@ -3,9 +3,8 @@
 -- `readLabel` alone, so that these equations hold for it too.
 use Prim.Native.Nat.{ℕ}
 use mathlib.Core.Path.{_≡_}
-use mathlib.Core.Bool.{Bool, _&&_}
+use mathlib.Core.Bool.{_&&_}
 use mathlib.Core.List.{List}
-use mathlib.Core.Option.{Option}
 use lib.ListN.{length, getD, take, drop}
 use lib.Dec.{leb, eqb}
 use Rattle.answer.specs.Outcome.{Outcome, answer, need}
@@ -13,7 +12,7 @@ use Rattle.label.specs.declared.Version.the-variants.{One, Two}
 use Rattle.label.specs.declared.Versions.the-variants as choice
 use Rattle.label.specs.declared.Label.{Label}
 use Rattle.label.specs.Head.{labelSize, headSize, isCapital, isAgency, isDescription, headGood, fourAt}
-use Rattle.label.specs.Length.{Length, spacesIn, numberIn, after, binary}
+use Rattle.label.specs.Length.{spacesIn, numberIn, after, binary}
 use Rattle.label.specs.Label.{labelled, withLength, readLabel}
 
 -- the reader as it was while there was one version, of twenty bytes: the agency, `1` (49), the class, `00`, the description;
@@ -32,7 +31,7 @@ abbrev pub readBy : (List ℕ → Outcome Label) → List ℕ → Outcome Label
 readBy of s = need (leb labelSize (length s)) 1 (of (take labelSize s))
 
 pub record Choice (s : List ℕ) : Type 0 where
-  -- told version 1 only, every answer and every refusal is the old one; byte 4 equal to `2` is 2
+  -- told version 1 only, every answer and every refusal is the old one: byte 4 equal to `2` is 2, as every byte but `1` is
   pub old-answers : readLabel choice.One s ≡ readBy onlyVersion1 s
   -- told both, bytes with byte 4 equal to `2` are read as version 2, and all others as before
   pub version-2 : getD s 4 0 ≡ 50 → readLabel choice.OneAndTwo s ≡ readBy onlyVersion2 s

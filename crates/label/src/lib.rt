@@ -45,7 +45,7 @@ pub struct Four {
 
 // What a label says. `length` is the number of bytes after the label: its value. `spaces` is how many
 // spaces stand before the length's digits, 0 to 7; in version 2 there are none. (In this order no
-// field crosses a word's end, so that an answer is copied in whole words.)
+// field crosses a word's end. With the length last, the compiler sends it through memory once more.)
 pub struct Label {
     pub agency: Four,
     pub description: Four,
@@ -91,7 +91,8 @@ fn number_of(f: Four) -> usize
     high * 65536 + low
 }
 
-// `NJPL` or `CCSD`: the four characters are compared at once.
+// `NJPL` or `CCSD`, whose characters, the last first, are these two numbers' bytes: four are compared
+// at once.
 fn is_agency(f: Four) -> bool
     ensures { λ r. ⌜ r ≡ isAgency f ⌝ }
 {

@@ -6,10 +6,10 @@ use Prim.Native.Nat.{ℕ, zero, suc, _+_, _*_, _/_, _%_, _^_, _≤_, _<_}
 use native.Mathlib.Nat.{pow-zero, pow-suc}
 use native.Mathlib.Omega.{arith}
 use mathlib.Core.Path.{_≡_, refl, _∙_, sym, ap}
-use mathlib.Core.Bool.{true, _&&_}
+use mathlib.Core.Bool.{true}
 use mathlib.Core.List.{List, [], _∷_, _++_}
 use mathlib.Core.Option.{some}
-use lib.ListN.{length, getD, take, length-append}
+use lib.ListN.{length, take, length-append}
 use lib.Dec.{leb, eqb}
 use lib.Seq.{take-at, drop-at, length-take-le}
 use borrow.Author.Tests.{leb-true, le-leb, eqb-true, eq-eqb}
@@ -20,12 +20,12 @@ use Rattle.text.proofs.Digits.{digits-read-back, length-digits}
 use Rattle.label.specs.declared.Version.{Version}
 use Rattle.label.specs.declared.Version.the-variants.{One, Two}
 use Rattle.label.specs.declared.Versions.{Versions}
-use Rattle.label.specs.Version.{versionByte, allows, versionFor}
-use Rattle.label.specs.Head.{fourAt, isAgency, isForm, isDescription, headGood, isHead}
+use Rattle.label.specs.Version.{allows, versionFor}
+use Rattle.label.specs.Head.{headGood, isHead}
 use Rattle.label.specs.Length.{binary, lengthOf}
 use Rattle.label.specs.declared.Label.{Label}
 use Rattle.label.specs.Label.{labelled, labelAs, labelOf, withLength, readLabel}
-use Rattle.label.proofs.ByteFour.{allowed-is-read}
+use Rattle.label.proofs.ByteFour.{allowed-is-read, byte-four}
 use Rattle.label.proofs.Spaces.{padded-is-read}
 use Rattle.label.proofs.Reading.{good-head, twenty-bytes-are-read}
 use Rattle.label.proofs.Read.{Read, same-head-good, same-labelled, front-has-the-head, read-says, digits-say}
@@ -54,15 +54,6 @@ field-reads-back Two n held h = ap (λ (k : ℕ). some (record { bytes = k; spac
 
 -- ---- what was written reads back
 
--- byte 4 of a good head is its version's
-agreeing : (version : Version) (head : List ℕ) → headGood version head ≡ true → getD head 4 0 ≡ versionByte version
-agreeing version head good =
-    let (_, rest) = both-hold (isAgency (fourAt head 0)) (isForm version (fourAt head 4) && isDescription (fourAt head 8)) good in
-    let (form, _) = both-hold (isForm version (fourAt head 4)) (isDescription (fourAt head 8)) rest in
-    let (first, _) = both-hold _ _ form in
-    let (byte, _) = both-hold _ _ first in
-    eqb-true (getD head 4 0) (versionByte version) byte
-
 -- what the writer writes, followed by anything, reads as the label with the version, the bytes and the length that it was given
 module _ (version : Version) (head : List ℕ) (n : ℕ) (twelve : length head ≡ 12) (good : headGood version head ≡ true) (held : holds version n ≡ true)
     (small : n < 2 ^ 64) (versions : Versions) (allowed : allows versions version ≡ true) (rest : List ℕ) where
@@ -80,7 +71,7 @@ module _ (version : Version) (head : List ℕ) (n : ℕ) (twelve : length head �
       twenty-bytes-are-read versions (bytes ++ rest) (omega (arith, length-append bytes rest, twenty))
       ∙ ap (labelOf versions) (take-at bytes rest 20 twenty)
       ∙ ap (λ (v : Version). labelAs v bytes)
-      (ap (versionFor versions) (same .at 4 (omega arith) ∙ agreeing version head good) ∙ allowed-is-read versions version allowed)
+      (ap (versionFor versions) (same .at 4 (omega arith) ∙ byte-four version head good) ∙ allowed-is-read versions version allowed)
       ∙ good-head version bytes (same-head-good same version ∙ good)
       ∙ ap (withLength version bytes) (ap (lengthOf version) (drop-at head (fieldOf version n) 12 twelve) ∙ field-reads-back version n held small)
       ∙ ap answer (same-labelled same version n 0)

@@ -5,3 +5,4 @@ pub mod Nested
 pub mod Checking
 pub mod Exact
 pub mod Values
+pub mod Allowed
