@@ -1,6 +1,6 @@
 -- The versions of the label and the choice of them (document 02, item 11: "CCSDS version 2 has byte 4 equal to `2`"; "Every call
 -- that reads labels is told whether version 2 is allowed"). Byte 4 is a character: `1` is 49, `2` is 50.
-use Prim.Native.Nat.{ℕ, _+_}
+use Prim.Native.Nat.{ℕ}
 use mathlib.Core.Bool.{Bool, true, false, _&&_}
 use lib.Dec.{eqb}
 use Rattle.label.specs.declared.Version.{Version}

@@ -91,7 +91,7 @@ fn field_of(version: Version, n: usize) -> [u8; 8]
 }
 
 // Writes the label of this version with bytes 0-11 as lent and this length to the first 20 bytes of
-// `out`: 2, 15, 8.
+// `out`: 2, in version 1 15, then 8.
 pub fn write_label(version: Version, head: &[u8], length: usize, out: &mut [u8]) -> Count
     ensures { λ r. ⌜ Writes (writeLabel version (now (head .entry)) «length» (size (now (out .entry))))
         (now (out .entry)) (counted r) (now (out .exit)) ⌝ }

@@ -1,5 +1,6 @@
 -- Decimal digits in ASCII: `0` is 48, `9` 57. `decimal` is how digits are read as a number and `digitsOf` how a number of so
--- many digits is written (document 01: the digits of the label's length field, and the numbers of the list program).
+-- many digits is written (document 01: the digits of the label's length field, and the numbers of the list program). `digitsIn` is
+-- the same in any base; in base 256 it writes the bytes of a binary number (document 02, item 11).
 use Prim.Native.Nat.{ℕ, zero, suc, _+_, _*_, _-_, _/_, _%_}
 use mathlib.Core.Bool.{Bool, true, false, _&&_}
 use mathlib.Core.List.{List, [], _∷_, _++_}
