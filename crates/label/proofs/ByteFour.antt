@@ -1,4 +1,4 @@
--- The choice of versions, byte 4 by byte 4: as which version a label is read.
+-- Byte 4 and the choice of versions: as which version a label is read.
 use Prim.Native.Nat.{ℕ}
 use mathlib.Core.Path.{_≡_, refl, ap}
 use mathlib.Core.Bool.{Bool, true, false, _&&_, and-false}

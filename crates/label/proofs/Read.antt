@@ -1,4 +1,5 @@
--- What a label that was read says of its bytes: twenty of them, of which the first twelve are its head.
+-- What a label that was read says of its bytes: twenty of them, of which the first twelve are its version's head and the others its
+-- version's length field; and that its version is allowed.
 use Prim.Native.Nat.{ℕ, _+_, _*_, _-_, _^_, _≤_, _<_}
 use native.Mathlib.Omega.{arith}
 use mathlib.Core.Path.{_≡_, refl, _∙_, sym, ap, ap₂}

@@ -1,5 +1,5 @@
--- An object's class decides whether it is opened, and nothing else: each side of `LabelsAlike` is brought to a form in which
--- the label does not occur.
+-- An object's class decides whether it is opened and its version how its length is written, and both nothing else: each side of
+-- `LabelsAlike` is brought to a form in which the label does not occur.
 use Prim.Native.Nat.{ℕ, _+_, _-_, _≤_, _<_}
 use native.Mathlib.Nat.{lt-of-not-le}
 use native.Mathlib.Decide.{decLe}
