@@ -8,10 +8,10 @@ use mathlib.Core.List.{List, [], _∷_, _++_, append-assoc}
 use lib.ListN.{length, getD, take, drop, set, length-drop, take-append-drop}
 use lib.Seq.{take-suc, drop-drop, length-take-le}
 use Rattle.answer.specs.Window.{bytesAt}
-use Rattle.kept.specs.LittleEndian.{le, leNumber, Below}
+use Rattle.little.specs.LittleEndian.{le, leNumber, Below}
 use Rattle.kept.specs.Kept.{entryBytes, entriesOf}
 use Rattle.kept.specs.Private.{putAt}
-use Rattle.kept.proofs.LittleEndian.{number-of-bytes, bytes-of-number, below-in-the-front, below-in-the-rest}
+use Rattle.little.proofs.LittleEndian.{number-of-bytes, bytes-of-number, below-in-the-front, below-in-the-rest}
 use Rattle.kept.proofs.Putting.{stored-is-put, put-keeps-the-length, put-after-put}
 
 pub length-entry-bytes : (xs : List ℕ) → length (entryBytes xs) ≡ 4 * length xs

@@ -9,7 +9,7 @@ use borrow.Author.Tests.{le-leb, lt-leb, eq-eqb, ne-eqb, leb-true, eqb-true}
 use Rattle.answer.specs.Outcome.{answer, refuse}
 use Rattle.answer.specs.Window.{bytesAt}
 use Rattle.answer.proofs.Tests.{both-hold}
-use Rattle.kept.specs.LittleEndian.{leNumber}
+use Rattle.little.specs.LittleEndian.{leNumber}
 use Rattle.kept.specs.Kept.{entriesOf, isKept, readAs, loadKept}
 use Rattle.kept.proofs.Entries.{length-entries}
 

@@ -12,9 +12,9 @@ use borrow.Author.Tests.{le-leb, eq-eqb, leb-true}
 use Rattle.answer.specs.Outcome.{answer, need}
 use Rattle.answer.specs.Window.{bytesAt}
 use Rattle.answer.proofs.Outcomes.{passed, answer-injective}
-use Rattle.kept.specs.LittleEndian.{le, leNumber, Below}
+use Rattle.little.specs.LittleEndian.{le, leNumber, Below}
 use Rattle.kept.specs.Kept.{entryBytes, houseRecord, keptAs, keptForm, entriesOf, keepIndex, isKept, readAs, readKept, loadKept}
-use Rattle.kept.proofs.LittleEndian.{number-of-bytes, bytes-of-number, below-in-the-front, below-in-the-rest}
+use Rattle.little.proofs.LittleEndian.{number-of-bytes, bytes-of-number, below-in-the-front, below-in-the-rest}
 use Rattle.kept.proofs.Entries.{entries-of-bytes, bytes-of-entries}
 use Rattle.kept.proofs.Reading.{whole-entries-decide, accepted}
 use Rattle.kept.proofs.Writing.{length-kept-as}

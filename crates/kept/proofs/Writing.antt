@@ -6,7 +6,7 @@ use mathlib.Core.List.{List, [], _∷_, _++_, append-assoc}
 use lib.ListN.{length, drop, length-append}
 use borrow.Author.Tests.{le-leb, lt-leb}
 use Rattle.answer.specs.Outcome.{answer, refuse}
-use Rattle.kept.specs.LittleEndian.{le}
+use Rattle.little.specs.LittleEndian.{le}
 use Rattle.kept.specs.Kept.{entryBytes, keptAs, keptForm, keepIndex}
 use Rattle.kept.specs.Private.{putAt}
 use Rattle.kept.proofs.Entries.{length-entry-bytes}

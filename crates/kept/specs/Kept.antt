@@ -8,7 +8,7 @@ use lib.ListN.{length, take, drop}
 use lib.Dec.{leb, eqb}
 use Rattle.answer.specs.Outcome.{Outcome, answer, need, andThen}
 use Rattle.answer.specs.Window.{bytesAt}
-use Rattle.kept.specs.LittleEndian.{le, leNumber}
+use Rattle.little.specs.LittleEndian.{le, leNumber}
 
 -- four bytes for each entry
 abbrev pub entryBytes : List ℕ → List ℕ

@@ -10,16 +10,9 @@ ghost use lib.ListN.{length, drop};
 ghost use Rattle.answer.specs.Counted.{counted};
 ghost use Rattle.answer.specs.Filled.{Writes};
 ghost use Rattle.answer.specs.Window.{bytesAt};
-ghost use Rattle.kept.specs.LittleEndian.{le, leNumber};
+ghost use Rattle.little.specs.LittleEndian.{le, leNumber};
 ghost use Rattle.kept.specs.Kept.{entryBytes, entriesOf, isKept, keepIndex, loadKept};
 ghost use Rattle.kept.specs.Private.{putAt};
-
-// A byte as a number to calculate with.
-fn wide(byte: u8) -> u32
-    ensures { λ r. ⌜ (r ≡ byte) × (r < 256) ⌝ }
-{
-    byte as u32
-}
 
 // Writes a number's lower 16 bits to the two bytes from place `at` on.
 fn put_two(number: u32, out: &mut [u8], at: usize)
@@ -42,11 +35,9 @@ fn put_four(number: u32, out: &mut [u8], at: usize)
 // The number in the two bytes from place `at` on.
 fn two_at(bytes: &[u8], at: usize) -> u32
     requires { ⌜ at + 2 ≤ length (now bytes) ⌝ }
-    ensures { λ r. ⌜ (r ≡ leNumber (bytesAt (now (bytes .entry)) at 2)) × (r < 65536) ⌝ }
+    ensures { λ r. ⌜ r ≡ leNumber (bytesAt (now (bytes .entry)) at 2) ⌝ }
 {
-    let low = wide(bytes[at]);
-    let high = wide(bytes[at + 1]);
-    low + 256 * high
+    little::two(bytes[at], bytes[at + 1])
 }
 
 // The number in the four bytes from place `at` on.
@@ -54,9 +45,7 @@ fn four_at(bytes: &[u8], at: usize) -> u32
     requires { ⌜ at + 4 ≤ length (now bytes) ⌝ }
     ensures { λ r. ⌜ r ≡ leNumber (bytesAt (now (bytes .entry)) at 4) ⌝ }
 {
-    let low = two_at(bytes, at);
-    let high = two_at(bytes, at + 2);
-    low + 65536 * high
+    little::four(bytes[at], bytes[at + 1], bytes[at + 2], bytes[at + 3])
 }
 
 // Writes a record's length, how many bytes follow it, and its kind to the first six bytes.

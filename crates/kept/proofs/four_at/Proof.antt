@@ -1,31 +1,51 @@
--- `kept::four_at` meets its contract: the second two bytes weigh 65,536 times the first two.
-use native.Mathlib.Omega.{arith}
+-- `kept::four_at` meets its contract: the four bytes are those from the place on.
+use mathlib.Core.Path.{_∙_, sym, ap}
 use denote.Ref.{now}
-use Rattle.kept.proofs.LittleEndian.{four-bytes}
+use Rattle.little.specs.LittleEndian.{leNumber}
+use Rattle.little.proofs.LittleEndian.{four-bytes}
 use borrow.Author.Needs.{needs}
 use Rattle.kept.proofs.four_at.Statement.{statement}
 use Rattle.kept.proofs.four_at.Tie as tie
 
-two-at-requires : tie.Need-two-at-requires
-two-at-requires c κs = search needs
+shared-slice-read-four : tie.Need-shared-slice-read-four
+shared-slice-read-four c = search needs
 
-add-two-at : tie.Need-add-two-at
-add-two-at c = search needs
+add-four : tie.Need-add-four
+add-four c = search needs
 
-two-at-requires-2 : tie.Need-two-at-requires-2
-two-at-requires-2 c κs = search needs
+shared-slice-read-four-2 : tie.Need-shared-slice-read-four-2
+shared-slice-read-four-2 c = search needs
 
-mul-result : tie.Need-mul-result
-mul-result c = search needs
+add-four-2 : tie.Need-add-four-2
+add-four-2 c = search needs
 
-add-result : tie.Need-add-result
-add-result c = search needs
+shared-slice-read-four-3 : tie.Need-shared-slice-read-four-3
+shared-slice-read-four-3 c = search needs
+
+add-four-3 : tie.Need-add-four-3
+add-four-3 c = search needs
+
+shared-slice-read-four-4 : tie.Need-shared-slice-read-four-4
+shared-slice-read-four-4 c = search needs
+
+four-requires : tie.Need-four-requires
+four-requires c κs = search needs
 
 returns : tie.Need-returns
 returns c =
-    let start = c .before .before .before in
-    omega (arith, four-bytes (now (start .args .bytes)) (start .args .at) (start .pre))
+    let start = c .before .before .before .before .before .before in
+    c .four .ensures ∙ sym (ap leNumber (four-bytes (now (start .args .bytes)) (start .args .at) (start .pre)))
 
 pub four-at-spec : {M : Type 1} → statement M
 four-at-spec =
-    tie.close (tie.spec two-at-requires add-two-at two-at-requires-2 mul-result add-result returns)
+    tie.close
+    (tie.spec
+    shared-slice-read-four
+    add-four
+    shared-slice-read-four-2
+    add-four-2
+    shared-slice-read-four-3
+    add-four-3
+    shared-slice-read-four-4
+    four-requires
+    returns)

@@ -31,7 +31,7 @@ two-at-requires c κs = search needs
 returns-3 : tie.Need-returns-3
 returns-3 c =
     let a = c .before .before .before .before .before .before .args in
-    sym (wrong-kind (a .kind) (a .first) (now (a .bytes)) (c .before .two-at .ensures .0) (c .if3 .taken))
+    sym (wrong-kind (a .kind) (a .first) (now (a .bytes)) (c .before .two-at .ensures) (c .if3 .taken))
 
 sub-result : tie.Need-sub-result
 sub-result c = search needs
@@ -44,7 +44,7 @@ returns-4 c =
     sym
     (whole-entries-decide (a .kind) (a .first) (now (a .bytes)) (long .if1 .left)
     (sym (sized .before .four-at .ensures) ∙ sized .if2 .left)
-    (sym (c .before .two-at .ensures .0) ∙ c .if3 .left))
+    (sym (c .before .two-at .ensures) ∙ c .if3 .left))
 
 pub is-kept-spec : {M : Type 1} → statement M
 is-kept-spec =

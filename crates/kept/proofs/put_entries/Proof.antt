@@ -7,7 +7,7 @@ use lib.ListN.{length, take, getD}
 use lib.Seq.{take-all}
 use denote.Ref.{now}
 use borrow.Author.Needs.{needs}
-use Rattle.kept.specs.LittleEndian.{le}
+use Rattle.little.specs.LittleEndian.{le}
 use Rattle.kept.specs.Kept.{entryBytes}
 use Rattle.kept.specs.Private.{putAt}
 use Rattle.kept.proofs.Putting.{put-nothing}

@@ -4,7 +4,7 @@ use native.Mathlib.Numerals.{add-one}
 use lib.ListN.{length-set}
 use lib.Seq.{sets-eq}
 use denote.Ref.{now}
-use Rattle.kept.specs.LittleEndian.{le}
+use Rattle.little.specs.LittleEndian.{le}
 use borrow.Author.Needs.{needs}
 use Rattle.kept.proofs.put_two.Statement.{statement}
 use Rattle.kept.proofs.put_two.Tie as tie

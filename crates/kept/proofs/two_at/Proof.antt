@@ -1,46 +1,29 @@
--- `kept::two_at` meets its contract: the second byte weighs 256 times the first.
-use native.Mathlib.Omega.{arith}
+-- `kept::two_at` meets its contract: the two bytes are those from the place on.
+use mathlib.Core.Path.{_∙_, sym, ap}
 use denote.Ref.{now}
-use Rattle.kept.proofs.LittleEndian.{two-bytes}
+use Rattle.little.specs.LittleEndian.{leNumber}
+use Rattle.little.proofs.LittleEndian.{two-bytes}
 use borrow.Author.Needs.{needs}
 use Rattle.kept.proofs.two_at.Statement.{statement}
 use Rattle.kept.proofs.two_at.Tie as tie
 
-shared-slice-read-wide : tie.Need-shared-slice-read-wide
-shared-slice-read-wide c = search needs
+shared-slice-read-two : tie.Need-shared-slice-read-two
+shared-slice-read-two c = search needs
 
-wide-requires : tie.Need-wide-requires
-wide-requires c κs = search needs
+add-two : tie.Need-add-two
+add-two c = search needs
 
-add-wide : tie.Need-add-wide
-add-wide c = search needs
+shared-slice-read-two-2 : tie.Need-shared-slice-read-two-2
+shared-slice-read-two-2 c = search needs
 
-shared-slice-read-wide-2 : tie.Need-shared-slice-read-wide-2
-shared-slice-read-wide-2 c = search needs
-
-wide-requires-2 : tie.Need-wide-requires-2
-wide-requires-2 c κs = search needs
-
-mul-result : tie.Need-mul-result
-mul-result c = search needs
-
-add-result : tie.Need-add-result
-add-result c = search needs
+two-requires : tie.Need-two-requires
+two-requires c κs = search needs
 
 returns : tie.Need-returns
 returns c =
-    let start = c .before .before .before .before .before in
-    (omega (arith, two-bytes (now (start .args .bytes)) (start .args .at) (start .pre)), omega arith)
+    let start = c .before .before .before .before in
+    c .two .ensures .0 ∙ sym (ap leNumber (two-bytes (now (start .args .bytes)) (start .args .at) (start .pre)))
 
 pub two-at-spec : {M : Type 1} → statement M
 two-at-spec =
-    tie.close
-    (tie.spec
-    shared-slice-read-wide
-    wide-requires
-    add-wide
-    shared-slice-read-wide-2
-    wide-requires-2
-    mul-result
-    add-result
-    returns)
+    tie.close (tie.spec shared-slice-read-two add-two shared-slice-read-two-2 two-requires returns)

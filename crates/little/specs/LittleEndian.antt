@@ -1,4 +1,5 @@
--- Numbers in a kept index (document 01, "Kept form": "all little-endian"): the lowest byte stands first.
+-- Little-endian numbers (document 01, "Kept form": "all little-endian"; document 02, item 1: "little-endian"): the lowest byte stands
+-- first.
 use Prim.Native.Nat.{ℕ, zero, suc, _+_, _*_, _/_, _%_, _<_}
 use mathlib.Core.List.{List, [], _∷_}
 
