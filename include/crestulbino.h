@@ -1,12 +1,12 @@
 /*
- * crestulbino.h: labelled radar files and waveform files, from C11 and C++17.
+ * crestulbino.h: labelled radar files, waveform files and short burst files, from C11 and C++17.
  *
  * Link with target/staticlib/libcapi.a, which `rt staticlib capi` proves and builds (x86-64).
  *
  * Every call takes any bytes and any numbers. It answers, or it gives one refusal: a number and a place. On a refusal it has
  * written nothing, neither to lent memory nor through a pointer. On an answer it has written every number that it has a pointer
- * for, and the front of the memory lent to it; what stands behind that front is unchanged. No call allocates, and none keeps
- * anything, so that calls may run at the same time.
+ * for, but crest_beams where there is none, and the front of the memory lent to it; what stands behind that front is unchanged.
+ * No call allocates, and none keeps anything, so that calls may run at the same time.
  *
  * What a caller owes:
  *  - a pointer with a length behind it is good for that many elements, and is aligned for them; only a pointer with length 0
@@ -20,6 +20,10 @@
  * most significant byte first. Every call that reads labels is told by version_2 whether version 2 is allowed beside version 1;
  * if not, a label of version 2 is BADLABEL. Take one choice throughout for what belongs together: the check of a file, its
  * index and the check of that, reading and the jump.
+ *
+ * A short burst file (Cassini SBDR) has records of 1,272 bytes, which are its rows. They stand end to end from the place start
+ * on, which the caller gives, to the end of the file; where start is that end, there are none. What is in front of start is not
+ * looked at.
  *
  * A place is the number of bytes before it in what was lent. A row's answer is the place of its window's first byte, and how many
  * bytes the window shows: they are file[place] to file[place + shown - 1]. Nothing is copied.
@@ -41,7 +45,7 @@
 extern "C" {
 #endif
 
-/* What every call but crest_sample returns. */
+/* What every call returns but crest_sample, crest_beams and crest_mode, which refuse nothing. */
 typedef struct crest_result {
     uint64_t refusal; /* 0: the call answered; else one of enum crest_refusal */
     uint64_t place;   /* of the fault; 0 where the call answered */
@@ -62,14 +66,37 @@ enum crest_refusal {
     CREST_RAGGED = 12,
     CREST_BADKEPT = 13,
     CREST_TOOBIG = 14,
-    CREST_TOOLONG = 15
+    CREST_TOOLONG = 15,
+    CREST_BADSTART = 16
 };
 
-/* What crest_verdict answers. */
+/* What crest_verdict, crest_burst_verdict and crest_beams answer. */
 enum crest_verdict_number {
     CREST_BELOW = 0,
     CREST_INSIDE = 1,
     CREST_ABOVE = 2
+};
+
+/* What a field of a burst is stored as. Numbers have their least significant byte first. */
+enum crest_field_type {
+    CREST_UNSIGNED = 0, /* an integer of 4 bytes */
+    CREST_SIGNED = 1,   /* an integer of 4 bytes, in two's complement */
+    CREST_FLOAT4 = 2,   /* an IEEE 754 float of 4 bytes */
+    CREST_FLOAT8 = 3,   /* an IEEE 754 float of 8 bytes */
+    CREST_TEXT = 4      /* an ASCII string of 16 or 24 bytes */
+};
+
+/* What crest_mode answers: the compression modes of bursts, by their numbers. BAQ is block adaptive quantization. */
+enum crest_mode_number {
+    CREST_MODE_BAQ_8_TO_2 = 0,
+    CREST_MODE_BAQ_8_TO_1 = 1,
+    CREST_MODE_8_TO_0 = 2,          /* no active mode data */
+    CREST_MODE_8_TO_2_MSB = 3,      /* the two most significant bits */
+    CREST_MODE_8_TO_4_MSB = 4,      /* the four most significant bits */
+    CREST_MODE_8_STRAIGHT = 5,
+    CREST_MODE_BAQ_8_TO_4_LOW = 6,  /* normally for the altimeter with low resolution */
+    CREST_MODE_BAQ_8_TO_4_HIGH = 7, /* normally for the altimeter with high resolution */
+    CREST_MODE_UNNAMED = 8          /* no mode: every number above 7 */
 };
 
 /* The bytes of a label, and with it of what crest_write_label writes. */
@@ -80,6 +107,12 @@ enum crest_verdict_number {
 
 /* The bytes of a kept index in front of its entries, of four bytes each. */
 #define CREST_KEPT_FRONT_BYTES 6u
+
+/* The bytes of a record of a burst file, which is a row. */
+#define CREST_BURST_BYTES 1272u
+
+/* How many fields a burst has: their positions are 1 to this. */
+#define CREST_BURST_FIELDS 255u
 
 /* A refusal with its name and a sentence in words, for crest_refusal_name and crest_refusal_text. */
 typedef struct crest_refusal_words {
@@ -101,12 +134,13 @@ static inline crest_refusal_words crest_words_of(uint64_t number)
         {"NOPART", "the window does not fit the row"},
         {"SMALL", "the lent output is too short"},
         {"RESERVED", "the VAX number has sign 1 and exponent 0"},
-        {"UNKNOWN", "the element has no limits"},
+        {"UNKNOWN", "there is no such field, or the element or field has no limits"},
         {"BADINDEX", "the list is not the index of this file"},
-        {"RAGGED", "the waveform file is no multiple of 2,080 bytes"},
+        {"RAGGED", "the waveform file is no multiple of 2,080 bytes, or the rest of the burst file none of 1,272"},
         {"BADKEPT", "these bytes are no kept index"},
         {"TOOBIG", "the file has more than 4,294,967,295 bytes, or the index too many entries to be kept"},
         {"TOOLONG", "a version 1 label cannot hold a length of more than 99,999,999 bytes"},
+        {"BADSTART", "the first record's place is beyond the file"},
         {"NUMBER", "no refusal has this number"}
     };
     const uint64_t last = sizeof words / sizeof words[0] - 1;
@@ -165,6 +199,13 @@ crest_result crest_check_labelled(const uint8_t *file, size_t file_len, bool ver
 crest_result crest_check_waveform(const uint8_t *file, size_t file_len, uint64_t *rows);
 
 /*
+ * reader::check of a burst file whose first record is at the place start.
+ * Refuses: TOOBIG; BADSTART for a start beyond the file's length; RAGGED.
+ * Writes: rows, how many rows the file has.
+ */
+crest_result crest_check_bursts(const uint8_t *file, size_t file_len, uint64_t start, uint64_t *rows);
+
+/*
  * reader::read_row of a labelled file. Reads count bytes of a row, from its byte first on, going through the file
  * from its first byte; rows are numbered from 0.
  * Refuses: as crest_check_labelled, wherever in the file the fault stands; then NOROW, NOPART.
@@ -180,6 +221,14 @@ crest_result crest_read_row_labelled(const uint8_t *file, size_t file_len, bool 
  */
 crest_result crest_read_row_waveform(const uint8_t *file, size_t file_len, uint64_t row, uint64_t first, uint64_t count,
                                      uint64_t *place, uint64_t *shown);
+
+/*
+ * reader::read_row of a burst file. Passes 1,272 bytes for each earlier row, from start on.
+ * Refuses: TOOBIG, BADSTART, RAGGED, NOROW, NOPART.
+ * Writes: place and shown; shown is count.
+ */
+crest_result crest_read_row_bursts(const uint8_t *file, size_t file_len, uint64_t start, uint64_t row, uint64_t first,
+                                   uint64_t count, uint64_t *place, uint64_t *shown);
 
 /*
  * reader::jump_row of a labelled file. Takes the entry of the row's group of 16 from list and walks on from there. It passes the 20
@@ -201,6 +250,14 @@ crest_result crest_jump_waveform(const uint8_t *file, size_t file_len, uint64_t 
                                  uint64_t *place, uint64_t *shown);
 
 /*
+ * reader::jump_row of a burst file. Computes the row's place, start and a multiple of 1,272.
+ * Refuses: TOOBIG, BADSTART, RAGGED, NOROW, NOPART.
+ * Writes: place and shown; shown is count.
+ */
+crest_result crest_jump_bursts(const uint8_t *file, size_t file_len, uint64_t start, uint64_t row, uint64_t first,
+                               uint64_t count, uint64_t *place, uint64_t *shown);
+
+/*
  * reader::row_from of a labelled file. Gives the whole row whose label comes first from the place from on. To go through an accepted
  * file row by row, begin at 0 and go on at place + shown of each row, until NOROW.
  * Refuses: TOOBIG; NOROW for a place beyond the file's length; then as the walk meets it, SHORT, BADLABEL, in version 1
@@ -217,6 +274,16 @@ crest_result crest_row_from_labelled(const uint8_t *file, size_t file_len, bool 
  * Writes: place, which is from + 32, and shown, which is 2,048.
  */
 crest_result crest_row_from_waveform(const uint8_t *file, size_t file_len, uint64_t from, uint64_t *place, uint64_t *shown);
+
+/*
+ * reader::row_from of a burst file. Gives the whole row that begins at the place from. To go through a file row by row, begin at
+ * start and go on at place + shown of each row, until NOROW.
+ * Refuses: TOOBIG, BADSTART, RAGGED; NOROW where from is in front of start, not a multiple of 1,272 behind it, or at or beyond
+ * the end of the file.
+ * Writes: place, which is from, and shown, which is 1,272.
+ */
+crest_result crest_row_from_bursts(const uint8_t *file, size_t file_len, uint64_t start, uint64_t from, uint64_t *place,
+                                   uint64_t *shown);
 
 /* ---- The index of a labelled file ---- */
 
@@ -277,11 +344,42 @@ crest_result crest_vax_d(const uint8_t *bytes, size_t bytes_len, double *number)
 crest_result crest_opening(const uint8_t *bytes, size_t bytes_len, uint64_t *orbit, double *start, double *stop);
 
 /*
- * altimeter::verdict. Compares a value with the limits of an element, 4.4.element of the TOPEX altimeter's elements.
+ * verdicts::verdict. Compares a value with the limits of an element, 4.4.element of the TOPEX altimeter's elements.
  * Refuses: UNKNOWN.
  * Writes: verdict, one of enum crest_verdict_number; the limits themselves are inside.
  */
 crest_result crest_verdict(uint64_t element, int64_t value, uint64_t *verdict);
+
+/* ---- Short bursts ---- */
+
+/*
+ * burst_fields::field. Reads a field of a row of a burst file. position is its number in the list of a record's fields, 1 to 255.
+ * Refuses: TOOBIG, BADSTART, RAGGED, NOROW; UNKNOWN for another position.
+ * Writes: type, one of enum crest_field_type; bits, the number, of a signed one its 64 bits in two's complement, of a float
+ * its stored bits, of a text 0; place and shown, of a text its place in the file and how many bytes it has, else 0 and 0.
+ */
+crest_result crest_burst_field(const uint8_t *file, size_t file_len, uint64_t start, uint64_t row, uint64_t position,
+                               uint64_t *type, uint64_t *bits, uint64_t *place, uint64_t *shown);
+
+/*
+ * burst_fields::verdict. Compares a field of a row of a burst file with its limits, which are stated for some of the integers.
+ * Refuses: TOOBIG, BADSTART, RAGGED, NOROW; UNKNOWN for a field without limits, and for a position other than 1 to 255.
+ * Writes: verdict, one of enum crest_verdict_number; the limits themselves are inside.
+ */
+crest_result crest_burst_verdict(const uint8_t *file, size_t file_len, uint64_t start, uint64_t row, uint64_t position,
+                                 uint64_t *verdict);
+
+/*
+ * burst_codes::beams. How many beams a mask, field 33 of a burst, enables. It refuses nothing. It returns CREST_INSIDE and writes
+ * beams for a mask from 0 to 31; for a larger one it returns CREST_ABOVE and writes nothing, as there is no such number.
+ */
+uint64_t crest_beams(uint64_t mask, uint64_t *beams);
+
+/*
+ * burst_codes::mode. The compression mode with this number, field 34 of a burst. It refuses nothing and returns one of
+ * enum crest_mode_number: the number itself for 0 to 7, and CREST_MODE_UNNAMED for every larger one.
+ */
+uint64_t crest_mode(uint64_t number);
 
 #ifdef __cplusplus
 }

@@ -3,7 +3,7 @@ use Prim.Native.Nat.{_<_}
 use native.Mathlib.Omega.{arith}
 use Rattle.answer.specs.Refusal.{numberOf}
 use Rattle.answer.specs.declared.Refusal.{Refusal}
-use Rattle.answer.specs.declared.Refusal.the-variants.{Short, BadLabel, BadLength, Overrun, Deep, NoRow, NoPart, Small, Reserved, Unknown, BadIndex, Ragged, BadKept, TooBig, TooLong}
+use Rattle.answer.specs.declared.Refusal.the-variants.{Short, BadLabel, BadLength, Overrun, Deep, NoRow, NoPart, Small, Reserved, Unknown, BadIndex, Ragged, BadKept, TooBig, TooLong, BadStart}
 
 pub numbers-are-not-0 : (why : Refusal) → 0 < numberOf why
 numbers-are-not-0 Short = omega arith
@@ -21,3 +21,4 @@ numbers-are-not-0 Ragged = omega arith
 numbers-are-not-0 BadKept = omega arith
 numbers-are-not-0 TooBig = omega arith
 numbers-are-not-0 TooLong = omega arith
+numbers-are-not-0 BadStart = omega arith

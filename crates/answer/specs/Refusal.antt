@@ -1,7 +1,7 @@
--- The numbers of the refusals (document 01, the table of refusals, column "No.").
+-- The numbers of the refusals (document 01, the table of refusals, column "No."; document 02, item 1: 16 BADSTART).
 use Prim.Native.Nat.{ℕ}
 use Rattle.answer.specs.declared.Refusal.{Refusal}
-use Rattle.answer.specs.declared.Refusal.the-variants.{Short, BadLabel, BadLength, Overrun, Deep, NoRow, NoPart, Small, Reserved, Unknown, BadIndex, Ragged, BadKept, TooBig, TooLong}
+use Rattle.answer.specs.declared.Refusal.the-variants.{Short, BadLabel, BadLength, Overrun, Deep, NoRow, NoPart, Small, Reserved, Unknown, BadIndex, Ragged, BadKept, TooBig, TooLong, BadStart}
 
 abbrev pub numberOf : Refusal → ℕ
 numberOf Short = 1
@@ -19,3 +19,4 @@ numberOf Ragged = 12
 numberOf BadKept = 13
 numberOf TooBig = 14
 numberOf TooLong = 15
+numberOf BadStart = 16

@@ -9,7 +9,7 @@ ghost use Rattle.answer.specs.Window.{fits, bytesAt};
 // The most bytes that a file may have; more is refusal 14.
 pub const LARGEST_FILE: usize = 4294967295;
 
-// The refusals of document 01's table, in its order. Document 02 adds two more, 16 and 17.
+// The refusals of document 01's table, in its order, then those of document 02, which adds 17 later.
 pub enum Refusal {
     Short,
     BadLabel,
@@ -26,6 +26,7 @@ pub enum Refusal {
     BadKept,
     TooBig,
     TooLong,
+    BadStart,
 }
 
 // The document's number of a refusal.
@@ -48,6 +49,7 @@ pub fn number(refusal: Refusal) -> usize
         Refusal::BadKept => 13,
         Refusal::TooBig => 14,
         Refusal::TooLong => 15,
+        Refusal::BadStart => 16,
     }
 }
 

@@ -4,15 +4,21 @@ use crate::Result;
 use answer::Count;
 use answer::Refusal;
 use answer::Show;
+use burst_fields::Value;
 use label::Version;
 use label::Versions;
 use vax::Decode;
+use verdicts::Judgement;
 ghost use mathlib.Core.Path.{_≡_};
 ghost use Rattle.answer.specs.Refusal.{numberOf};
 ghost use Rattle.answer.specs.Counted.{counted};
 ghost use Rattle.answer.specs.Window.{shown};
 ghost use Rattle.label.specs.Version.{versionNumber};
+ghost use Rattle.answer.specs.Outcome.{mapped};
 ghost use Rattle.vax.specs.Decoded.{decoded};
+ghost use Rattle.burst_fields.specs.Fields.{valued};
+ghost use Rattle.verdicts.specs.Judged.{judged};
+ghost use Rattle.capi.specs.Parts.{sideNumber, bitsOf, inNumbers, told};
 ghost use Rattle.capi.specs.Handed.{refusedAs, resultOf, handed};
 ghost use Rattle.capi.specs.Numbers.{choiceOf, numberedVersion, versionRead};
 
@@ -110,5 +116,84 @@ pub fn float(answer: Decode, number: &mut f64) -> Result
             DONE
         }
         Decode::Refused(why, place) => refused(why, place),
+    }
+}
+
+// A verdict: 0 below, 1 inside, 2 above.
+pub fn side(answer: Judgement, number: &mut usize) -> Result
+    ensures { λ r. ⌜ r ≡ resultOf (judged answer) ⌝ }
+    ensures { λ _. ⌜ now (number .exit) ≡ handed sideNumber (judged answer) (now (number .entry)) ⌝ }
+{
+    match answer {
+        Judgement::Below => {
+            *number = 0;
+            DONE
+        }
+        Judgement::Inside => {
+            *number = 1;
+            DONE
+        }
+        Judgement::Above => {
+            *number = 2;
+            DONE
+        }
+        Judgement::Refused(why, place) => refused(why, place),
+    }
+}
+
+// What a field holds, in numbers: that of its type, its bits, and of a text the place and how many
+// bytes it has.
+pub struct Stored {
+    pub kind: usize,
+    pub bits: usize,
+    pub place: usize,
+    pub shown: usize,
+}
+
+// These numbers, or a refusal.
+pub enum Told {
+    Is(Stored),
+    Refused(Refusal, usize),
+}
+
+// The 64 bits of a signed number, in two's complement.
+fn signed_bits(number: i64) -> usize
+    ensures { λ r. ⌜ r ≡ bitsOf number ⌝ }
+{
+    if number < 0 {
+        let below = (-1 - number) as usize;
+        return 18446744073709551615 - below;
+    }
+    number as usize
+}
+
+// A number that is no text.
+fn plain(kind: usize, bits: usize) -> Told
+    ensures { λ r. ⌜ r ≡ Told.Is (record { kind = kind; bits = bits; place = 0; shown = 0 }) ⌝ }
+{
+    Told::Is(Stored {
+        kind,
+        bits,
+        place: 0,
+        shown: 0,
+    })
+}
+
+// What a field holds, in numbers.
+pub fn in_numbers(value: Value) -> Told
+    ensures { λ r. ⌜ told r ≡ mapped inNumbers (valued value) ⌝ }
+{
+    match value {
+        Value::Unsigned(n) => plain(0, n as usize),
+        Value::Signed(n) => plain(1, signed_bits(n)),
+        Value::Float4(bits) => plain(2, bits as usize),
+        Value::Float8(bits) => plain(3, bits),
+        Value::Text(p) => Told::Is(Stored {
+            kind: 4,
+            bits: 0,
+            place: p.place,
+            shown: p.count,
+        }),
+        Value::Refused(why, place) => Told::Refused(why, place),
     }
 }

@@ -6,9 +6,12 @@
 // header.
 mod hand;
 
-use altimeter::Judgement;
+use burst_codes::Compression;
+use burst_codes::Enabled;
 use hand::Numbered;
+use hand::Told;
 use label::LabelRead;
+use limits::Table;
 use orbit::Open;
 use reader::Kind;
 use row_index::Build;
@@ -27,9 +30,12 @@ ghost use Rattle.kept.specs.Kept.{keepIndex, loadKept};
 ghost use Rattle.waveform.specs.Sample.{twiceAmplitude};
 ghost use Rattle.vax.specs.Numbers.{vaxF, vaxD};
 ghost use Rattle.orbit.specs.Opening.{perOrbitOpening};
-ghost use Rattle.altimeter.specs.Verdict.{verdictOf};
+ghost use Rattle.verdicts.specs.Verdict.{verdictOf};
+ghost use Rattle.burst_fields.specs.Fields.{fieldOf, fieldVerdict};
+ghost use Rattle.burst_codes.specs.Beams.{verdictIn, beamsOf};
+ghost use Rattle.burst_codes.specs.Modes.{numbered};
 ghost use Rattle.capi.specs.Handed.{resultOf, handed};
-ghost use Rattle.capi.specs.Parts.{fourBytes, sideNumber};
+ghost use Rattle.capi.specs.Parts.{fourBytes, sideNumber, inNumbers, beamsHanded, modeHanded};
 ghost use Rattle.capi.specs.Numbers.{choiceOf, writeNumbered};
 
 // What every call returns: a refusal's number and its place; 0 and 0 for an answer.
@@ -120,6 +126,15 @@ pub extern "C" fn crest_check_waveform(file: &[u8], rows: &mut usize) -> Result
     hand::count(reader::check(Kind::Waveform, file), rows)
 }
 
+// How many records a burst file has from its first one on.
+#[no_mangle]
+pub extern "C" fn crest_check_bursts(file: &[u8], start: usize, rows: &mut usize) -> Result
+    ensures { λ r. ⌜ r ≡ resultOf (checkFile (Kind.Bursts start) (now (file .entry))) ⌝ }
+    ensures { λ _. ⌜ now (rows .exit) ≡ handed (λ n. n) (checkFile (Kind.Bursts start) (now (file .entry))) (now (rows .entry)) ⌝ }
+{
+    hand::count(reader::check(Kind::Bursts(start), file), rows)
+}
+
 // A window of a labelled file's row, read from the first byte.
 #[no_mangle]
 pub extern "C" fn crest_read_row_labelled(
@@ -169,6 +184,28 @@ pub extern "C" fn crest_read_row_waveform(
     )
 }
 
+// A window of a burst file's record, read from the first record on.
+#[no_mangle]
+pub extern "C" fn crest_read_row_bursts(
+    file: &[u8],
+    start: usize,
+    row: usize,
+    first: usize,
+    count: usize,
+    place: &mut usize,
+    shown: &mut usize,
+) -> Result
+    ensures { λ r. ⌜ r ≡ resultOf (readRow (Kind.Bursts start) (now (file .entry)) row first count) ⌝ }
+    ensures { λ _. ⌜ now (place .exit) ≡ handed (λ p. p .place) (readRow (Kind.Bursts start) (now (file .entry)) row first count) (now (place .entry)) ⌝ }
+    ensures { λ _. ⌜ now (shown .exit) ≡ handed (λ p. p .count) (readRow (Kind.Bursts start) (now (file .entry)) row first count) (now (shown .entry)) ⌝ }
+{
+    hand::part(
+        reader::read_row(Kind::Bursts(start), file, row, first, count),
+        place,
+        shown,
+    )
+}
+
 // A window of a labelled file's row, jumped to by the list.
 #[no_mangle]
 pub extern "C" fn crest_jump_labelled(
@@ -186,14 +223,7 @@ pub extern "C" fn crest_jump_labelled(
     ensures { λ _. ⌜ now (shown .exit) ≡ handed (λ p. p .count) (jumpRow (Kind.Labelled (choiceOf version_2)) (now (file .entry)) (now (list .entry)) row first count) (now (shown .entry)) ⌝ }
 {
     hand::part(
-        reader::jump_row(
-            Kind::Labelled(hand::choice(version_2)),
-            file,
-            list,
-            row,
-            first,
-            count,
-        ),
+        reader::jump_labelled(hand::choice(version_2), file, list, row, first, count),
         place,
         shown,
     )
@@ -213,9 +243,26 @@ pub extern "C" fn crest_jump_waveform(
     ensures { λ _. ⌜ now (place .exit) ≡ handed (λ p. p .place) (jumpRow Kind.Waveform (now (file .entry)) [] row first count) (now (place .entry)) ⌝ }
     ensures { λ _. ⌜ now (shown .exit) ≡ handed (λ p. p .count) (jumpRow Kind.Waveform (now (file .entry)) [] row first count) (now (shown .entry)) ⌝ }
 {
-    let none: [u32; 0] = [];
+    hand::part(reader::jump_waveform(file, row, first, count), place, shown)
+}
+
+// A window of a burst file's record, jumped to with no list.
+#[no_mangle]
+pub extern "C" fn crest_jump_bursts(
+    file: &[u8],
+    start: usize,
+    row: usize,
+    first: usize,
+    count: usize,
+    place: &mut usize,
+    shown: &mut usize,
+) -> Result
+    ensures { λ r. ⌜ r ≡ resultOf (jumpRow (Kind.Bursts start) (now (file .entry)) [] row first count) ⌝ }
+    ensures { λ _. ⌜ now (place .exit) ≡ handed (λ p. p .place) (jumpRow (Kind.Bursts start) (now (file .entry)) [] row first count) (now (place .entry)) ⌝ }
+    ensures { λ _. ⌜ now (shown .exit) ≡ handed (λ p. p .count) (jumpRow (Kind.Bursts start) (now (file .entry)) [] row first count) (now (shown .entry)) ⌝ }
+{
     hand::part(
-        reader::jump_row(Kind::Waveform, file, &none, row, first, count),
+        reader::jump_bursts(file, start, row, first, count),
         place,
         shown,
     )
@@ -235,7 +282,7 @@ pub extern "C" fn crest_row_from_labelled(
     ensures { λ _. ⌜ now (shown .exit) ≡ handed (λ p. p .count) (rowFrom (Kind.Labelled (choiceOf version_2)) (now (file .entry)) from) (now (shown .entry)) ⌝ }
 {
     hand::part(
-        reader::row_from(Kind::Labelled(hand::choice(version_2)), file, from),
+        walk::value_from(hand::choice(version_2), file, from, 0),
         place,
         shown,
     )
@@ -253,7 +300,23 @@ pub extern "C" fn crest_row_from_waveform(
     ensures { λ _. ⌜ now (place .exit) ≡ handed (λ p. p .place) (rowFrom Kind.Waveform (now (file .entry)) from) (now (place .entry)) ⌝ }
     ensures { λ _. ⌜ now (shown .exit) ≡ handed (λ p. p .count) (rowFrom Kind.Waveform (now (file .entry)) from) (now (shown .entry)) ⌝ }
 {
-    hand::part(reader::row_from(Kind::Waveform, file, from), place, shown)
+    hand::part(waveform::row_from(file, from), place, shown)
+}
+
+// The record of a burst file that begins at a place.
+#[no_mangle]
+pub extern "C" fn crest_row_from_bursts(
+    file: &[u8],
+    start: usize,
+    from: usize,
+    place: &mut usize,
+    shown: &mut usize,
+) -> Result
+    ensures { λ r. ⌜ r ≡ resultOf (rowFrom (Kind.Bursts start) (now (file .entry)) from) ⌝ }
+    ensures { λ _. ⌜ now (place .exit) ≡ handed (λ p. p .place) (rowFrom (Kind.Bursts start) (now (file .entry)) from) (now (place .entry)) ⌝ }
+    ensures { λ _. ⌜ now (shown .exit) ≡ handed (λ p. p .count) (rowFrom (Kind.Bursts start) (now (file .entry)) from) (now (shown .entry)) ⌝ }
+{
+    hand::part(bursts::row_from(file, start, from), place, shown)
 }
 
 // Writes the index of a labelled file to the front of the list.
@@ -364,22 +427,87 @@ pub extern "C" fn crest_opening(
 // Where a value stands against its element's limits: 0 below, 1 inside, 2 above.
 #[no_mangle]
 pub extern "C" fn crest_verdict(element: usize, value: i64, verdict: &mut usize) -> Result
-    ensures { λ r. ⌜ r ≡ resultOf (verdictOf element value) ⌝ }
-    ensures { λ _. ⌜ now (verdict .exit) ≡ handed sideNumber (verdictOf element value) (now (verdict .entry)) ⌝ }
+    ensures { λ r. ⌜ r ≡ resultOf (verdictOf Table.Altimeter element value) ⌝ }
+    ensures { λ _. ⌜ now (verdict .exit) ≡ handed sideNumber (verdictOf Table.Altimeter element value) (now (verdict .entry)) ⌝ }
 {
-    match altimeter::verdict(element, value) {
-        Judgement::Below => {
-            *verdict = 0;
+    hand::side(verdicts::verdict(Table::Altimeter, element, value), verdict)
+}
+
+// A field of a burst: the number of its type, its bits, and of a text its place and how many bytes it
+// has.
+#[no_mangle]
+pub extern "C" fn crest_burst_field(
+    file: &[u8],
+    start: usize,
+    row: usize,
+    position: usize,
+    kind: &mut usize,
+    bits: &mut usize,
+    place: &mut usize,
+    shown: &mut usize,
+) -> Result
+    ensures { λ r. ⌜ r ≡ resultOf (mapped inNumbers (fieldOf (now (file .entry)) start row position)) ⌝ }
+    ensures { λ _. ⌜ now (kind .exit) ≡ handed (λ f. f .kind) (mapped inNumbers (fieldOf (now (file .entry)) start row position)) (now (kind .entry)) ⌝ }
+    ensures { λ _. ⌜ now (bits .exit) ≡ handed (λ f. f .bits) (mapped inNumbers (fieldOf (now (file .entry)) start row position)) (now (bits .entry)) ⌝ }
+    ensures { λ _. ⌜ now (place .exit) ≡ handed (λ f. f .place) (mapped inNumbers (fieldOf (now (file .entry)) start row position)) (now (place .entry)) ⌝ }
+    ensures { λ _. ⌜ now (shown .exit) ≡ handed (λ f. f .shown) (mapped inNumbers (fieldOf (now (file .entry)) start row position)) (now (shown .entry)) ⌝ }
+{
+    match hand::in_numbers(burst_fields::field(file, start, row, position)) {
+        Told::Is(f) => {
+            *kind = f.kind;
+            *bits = f.bits;
+            *place = f.place;
+            *shown = f.shown;
             hand::DONE
         }
-        Judgement::Inside => {
-            *verdict = 1;
-            hand::DONE
+        Told::Refused(why, at) => hand::refused(why, at),
+    }
+}
+
+// Where a field of a burst stands against its limits: 0 below, 1 inside, 2 above.
+#[no_mangle]
+pub extern "C" fn crest_burst_verdict(
+    file: &[u8],
+    start: usize,
+    row: usize,
+    position: usize,
+    verdict: &mut usize,
+) -> Result
+    ensures { λ r. ⌜ r ≡ resultOf (fieldVerdict (now (file .entry)) start row position) ⌝ }
+    ensures { λ _. ⌜ now (verdict .exit) ≡ handed sideNumber (fieldVerdict (now (file .entry)) start row position) (now (verdict .entry)) ⌝ }
+{
+    hand::side(burst_fields::verdict(file, start, row, position), verdict)
+}
+
+// The verdict on a beam mask, 1 inside or 2 above, itself; and where it is inside, the number of beams.
+#[no_mangle]
+pub extern "C" fn crest_beams(mask: usize, beams: &mut usize) -> usize
+    ensures { λ r. ⌜ r ≡ sideNumber (verdictIn (beamsOf mask)) ⌝ }
+    ensures { λ _. ⌜ now (beams .exit) ≡ beamsHanded (beamsOf mask) (now (beams .entry)) ⌝ }
+{
+    match burst_codes::beams(mask) {
+        Enabled::Inside(n) => {
+            *beams = n;
+            1
         }
-        Judgement::Above => {
-            *verdict = 2;
-            hand::DONE
-        }
-        Judgement::Refused(why, place) => hand::refused(why, place),
+        Enabled::Above => 2,
+    }
+}
+
+// The number of a compression mode, itself; 8 for one without a name.
+#[no_mangle]
+pub extern "C" fn crest_mode(number: usize) -> usize
+    ensures { λ r. ⌜ r ≡ modeHanded (numbered number) ⌝ }
+{
+    match burst_codes::mode(number) {
+        Compression::Baq8To2 => 0,
+        Compression::Baq8To1 => 1,
+        Compression::NoData => 2,
+        Compression::Top8To2 => 3,
+        Compression::Top8To4 => 4,
+        Compression::Straight8 => 5,
+        Compression::Baq8To4LowRes => 6,
+        Compression::Baq8To4HighRes => 7,
+        Compression::Unnamed => 8,
     }
 }

@@ -12,12 +12,12 @@ use Rattle.reader.specs.Rows.{checkFile}
 use Rattle.reader.specs.Read.{findRow, readRow, jumpRow}
 use Rattle.text.specs.Decimal.{decimalText}
 use Rattle.listing.specs.Listing.{rowsListed, listingOf}
-use Rattle.limits.specs.Limits.{table}
+use Rattle.limits.specs.AltimeterLimits.{altimeterTable}
 use Rattle.cases.specs.Table.{Table}
 use Rattle.cases.proofs.Row31.{row-31, jump-to-row-31, row-31-at-1024, jump-to-row-31-at-1024}
 
 pub cases-hold : Table
-unfolding readLabel object level objects scan rowsOfFile checkLabelled labelled.findRow findRow buildIndex checkIndex decimalText rowsListed listingOf checkFile readRow jumpRow table odd trailingZeros
+unfolding readLabel object level objects scan rowsOfFile checkLabelled labelled.findRow findRow buildIndex checkIndex decimalText rowsListed listingOf checkFile readRow jumpRow altimeterTable odd trailingZeros
 cases-hold = record {
   empty-is-accepted = λ v. refl;
   empty-has-no-row = λ v a c. refl;

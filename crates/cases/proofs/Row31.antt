@@ -9,8 +9,9 @@ use borrow.Author.Tests.{le-leb}
 use Rattle.answer.specs.Outcome.{Outcome, answer, andThen}
 use Rattle.answer.specs.Window.{windowIn}
 use Rattle.answer.specs.declared.Part.{Part}
-use Rattle.waveform.proofs.Accepted.{whole-is-accepted}
-use Rattle.waveform.proofs.Rows.{row-is-there}
+use Rattle.fixed_rows.proofs.Accepted.{whole-is-accepted}
+use Rattle.waveform.specs.Rows.{rowSize}
+use Rattle.waveform.proofs.Rows.{takes-bytes, row-is-there}
 use Rattle.reader.specs.Read.{findRow, readRow, jumpRow}
 use Rattle.reader.specs.declared.Kind.the-variants.{Waveform}
 use Rattle.reader.proofs.Demand3.{demand-3}
@@ -21,7 +22,7 @@ module _ (f : List ℕ) (e : length f ≡ 2080 * 32) where
   unfolding readRow findRow
   reads a c =
       ap (λ (o : Outcome Part). andThen o (windowIn a c))
-      (row-is-there f 32 (whole-is-accepted f 32 (record { within = omega (arith, e); rows = e })) 31 (omega arith))
+      (row-is-there f 32 (whole-is-accepted 0 rowSize takes-bytes f 32 (record { within = omega (arith, e); rows = e })) 31 (omega arith))
 
   -- and jumped to
   jumps : (xs : List ℕ) (a c : ℕ) → jumpRow Waveform f xs 31 a c ≡ windowIn a c (record { place = 64512; count = 2048 })

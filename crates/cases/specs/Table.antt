@@ -17,7 +17,8 @@ use Rattle.reader.specs.Rows.{checkFile}
 use Rattle.reader.specs.Read.{readRow, jumpRow}
 use Rattle.reader.specs.declared.Kind.the-variants.{Labelled, Waveform}
 use Rattle.vax.specs.Numbers.{vaxF}
-use Rattle.altimeter.specs.Verdict.{below, inside, above, verdictOf}
+use Rattle.limits.specs.declared.Table.the-variants.{Altimeter}
+use Rattle.verdicts.specs.Verdict.{below, inside, above, verdictOf}
 use Rattle.listing.specs.Listing.{listingOf}
 use Rattle.cases.specs.Files.{sixtyThree, printed, shorterOutside, longerInside}
 
@@ -64,7 +65,7 @@ pub record Table : Type 0 where
   pub vax-zero : vaxF (0x7F ∷ 0 ∷ 0xFF ∷ 0xFF ∷ []) ≡ answer (fin false 0 (pos 0))
   pub vax-reserved : vaxF (0 ∷ 0x80 ∷ 0 ∷ 0 ∷ []) ≡ refuse 9 0
   -- 12: element 141 at −2,001, −2,000, 2,000, 2,001: below, inside, inside, above
-  pub under-141 : verdictOf 141 (negℤ (pos 2001)) ≡ answer below
-  pub least-141 : verdictOf 141 (negℤ (pos 2000)) ≡ answer inside
-  pub most-141 : verdictOf 141 (pos 2000) ≡ answer inside
-  pub over-141 : verdictOf 141 (pos 2001) ≡ answer above
+  pub under-141 : verdictOf Altimeter 141 (negℤ (pos 2001)) ≡ answer below
+  pub least-141 : verdictOf Altimeter 141 (negℤ (pos 2000)) ≡ answer inside
+  pub most-141 : verdictOf Altimeter 141 (pos 2000) ≡ answer inside
+  pub over-141 : verdictOf Altimeter 141 (pos 2001) ≡ answer above

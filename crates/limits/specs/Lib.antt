@@ -1,1 +1,3 @@
+pub mod AltimeterLimits
+pub mod BurstLimits
 pub mod Limits

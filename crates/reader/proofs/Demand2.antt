@@ -1,6 +1,6 @@
 -- Demand 2, whole: one statement over every kind of file. It rests on the theorems of the kinds: `sfdu`'s `accepted-exactly`,
--- `only-one-forest` and `bytes-are-values`, and `waveform`'s `accepted-is-rows`, `only-one-way` and `bytes-are-samples`.
-use Prim.Native.Nat.{ℕ, zero, suc, _≤_}
+-- `only-one-forest` and `bytes-are-values`, and `fixed_rows`' `rows-are-divided`, `only-one-way` and `bytes-are-shown`.
+use Prim.Native.Nat.{ℕ, suc, _≤_}
 use mathlib.Core.Path.{_≡_, refl, _∙_, sym, ap}
 use mathlib.Core.Logic.{_↔_}
 use mathlib.Core.List.{List, [], _∷_, map}
@@ -16,13 +16,16 @@ use Rattle.sfdu.specs.Forest.{Forest, leaves}
 use Rattle.sfdu.specs.Check.{rowsOfFile, checkLabelled}
 use Rattle.sfdu.proofs.Exact.{DividesFile, accepted-exactly, only-one-forest}
 use Rattle.sfdu.proofs.Values.{rowBytes, bytes-are-values}
-use Rattle.waveform.specs.Rows as waveform
-use Rattle.waveform.specs.Check.{rowCount}
-use Rattle.waveform.proofs.Framing.{accepted-is-rows, only-one-way, bytes-are-samples}
+use Rattle.fixed_rows.specs.Check.{countRows}
+use Rattle.fixed_rows.proofs.Framing.{rows-are-divided, counts-rows, only-one-way, bytes-are-shown}
+use Rattle.waveform.specs.Rows.{waveform}
+use Rattle.waveform.proofs.Rows as waveform-rows
+use Rattle.bursts.specs.Rows.{bursts}
+use Rattle.bursts.proofs.Rows as burst-rows
 use Rattle.reader.specs.declared.Kind.{Kind}
-use Rattle.reader.specs.declared.Kind.the-variants.{Labelled, Waveform}
+use Rattle.reader.specs.declared.Kind.the-variants.{Labelled, Waveform, Bursts}
 use Rattle.reader.specs.Rows.{rowParts, checkFile}
-use Rattle.reader.specs.Demand2.{Division, rowsIn, Divides, Demand2}
+use Rattle.reader.specs.Demand2.{Division, together, Sound, rowsIn, Divides, Demand2}
 
 -- ---- labelled files
 
@@ -56,31 +59,21 @@ labelled-counts : (o : Outcome (List Row)) → mapped length o ≡ mapped length
 labelled-counts (answer rows) = ap answer (sym (length-of-map rows))
 labelled-counts (refuse n p) = refl
 
--- ---- waveform files
-
-length-of-parts : (n k : ℕ) → length (waveform.sampleParts k n) ≡ n
-length-of-parts zero k = refl
-length-of-parts (suc n) k = ap suc (length-of-parts n (suc k))
-
-waveform-exactly : (f : List ℕ) (rows : List Part)
-    → (rowParts Waveform f ≡ answer rows)
-    ↔ ((length f ≤ largestFile) × ((rs : List waveform.Row) × Divides Waveform f rs × (rowsIn Waveform rs ≡ rows)))
-unfolding rowParts
-waveform-exactly f rows = (
-  (λ e.
-      let (n, counted, is) = mapped-answer (waveform.sampleParts 0) (rowCount f) rows e in
-      let (small, (rs, all, bytes, many)) = accepted-is-rows f n .0 counted in
-      (small, (rs, record { bytes = bytes; sound = all }, ap (waveform.sampleParts 0) many ∙ is))),
-  (λ q.
-      let (rs, d, is) = q .1 in
-      ap (mapped (waveform.sampleParts 0)) (accepted-is-rows f (length rs) .1 (q .0, (rs, d .sound, d .bytes, refl))) ∙ ap answer is),
-)
-
-waveform-counts : (o : Outcome ℕ) → o ≡ mapped length (mapped (waveform.sampleParts 0) o)
-waveform-counts (answer n) = ap answer (sym (length-of-parts n 0))
-waveform-counts (refuse n p) = refl
-
 -- ---- demand 2
+
+-- the rows are those of a division, from the same said of its bytes and its pieces apart
+divided-exactly-from : (kind : Kind) (f : List ℕ) (rows : List Part)
+    → (rowParts kind f ≡ answer rows)
+    ↔ ((length f ≤ largestFile) × ((d : Division kind) × Sound kind d × (together kind d ≡ f) × (rowsIn kind d ≡ rows)))
+    → (rowParts kind f ≡ answer rows) ↔ ((length f ≤ largestFile) × ((d : Division kind) × Divides kind f d × (rowsIn kind d ≡ rows)))
+divided-exactly-from kind f rows exactly = (
+  (λ e.
+      let (small, (d, sound, bytes, is)) = exactly .0 e in
+      (small, (d, record { bytes = bytes; sound = sound }, is))),
+  (λ q.
+      let (d, divides, is) = q .1 in
+      exactly .1 (q .0, (d, divides .sound, divides .bytes, is))),
+)
 
 -- what is accepted, from what the rows are and that the check counts them
 accepted-exactly-from : (kind : Kind) (f : List ℕ)
@@ -108,9 +101,16 @@ demand-2 (Labelled v) f = record {
   values-are = λ F d. map-of-map f (leaves 1 (λ at. at) 0 F) ∙ bytes-are-values v f (leaves 1 (λ at. at) 0 F) F (by-grammar v f F d);
 }
 demand-2 Waveform f = record {
-  accepted = accepted-exactly-from Waveform f (waveform-exactly f) (waveform-counts (rowCount f));
-  rows-are = waveform-exactly f;
-  counts = waveform-counts (rowCount f);
-  only-one = λ rs qs d e. only-one-way rs qs (d .sound) (e .sound) (d .bytes ∙ sym (e .bytes));
-  values-are = λ rs d. bytes-are-samples f rs (d .sound) (d .bytes);
+  accepted = accepted-exactly-from Waveform f (λ rows. divided-exactly-from Waveform f rows (rows-are-divided waveform waveform-rows.takes-bytes f rows)) (counts-rows waveform (countRows waveform f));
+  rows-are = λ rows. divided-exactly-from Waveform f rows (rows-are-divided waveform waveform-rows.takes-bytes f rows);
+  counts = counts-rows waveform (countRows waveform f);
+  only-one = λ c d p q. only-one-way waveform waveform-rows.takes-bytes c d (p .sound) (q .sound) (p .bytes ∙ sym (q .bytes));
+  values-are = λ d p. bytes-are-shown waveform f d (p .sound) (p .bytes);
+}
+demand-2 (Bursts first) f = record {
+  accepted = accepted-exactly-from (Bursts first) f (λ rows. divided-exactly-from (Bursts first) f rows (rows-are-divided (bursts first) (burst-rows.takes-bytes first) f rows)) (counts-rows (bursts first) (countRows (bursts first) f));
+  rows-are = λ rows. divided-exactly-from (Bursts first) f rows (rows-are-divided (bursts first) (burst-rows.takes-bytes first) f rows);
+  counts = counts-rows (bursts first) (countRows (bursts first) f);
+  only-one = λ c d p q. only-one-way (bursts first) (burst-rows.takes-bytes first) c d (p .sound) (q .sound) (p .bytes ∙ sym (q .bytes));
+  values-are = λ d p. bytes-are-shown (bursts first) f d (p .sound) (p .bytes);
 }

@@ -1,5 +1,5 @@
 -- Demand 3, whole: one statement over every kind, every row number and every window. It rests on the theorems of the kinds,
--- `row_index`'s and `waveform`'s `jump-is-read`, on reading finding demand 2's rows, and on the window of a row being a part
+-- `row_index`'s and `fixed_rows`' `jump-is-read`, on reading finding demand 2's rows, and on the window of a row being a part
 -- of the row's bytes.
 use Prim.Native.Nat.{ℕ, _+_}
 use native.Mathlib.Omega.{arith}
@@ -15,9 +15,13 @@ use Rattle.answer.proofs.Windows.{shown-is-inside, window-of-the-row}
 use Rattle.row_index.specs.Jump as labelled-jump
 use Rattle.row_index.proofs.IndexExact.{index-check-is-exact}
 use Rattle.row_index.proofs.JumpIsRead as labelled
-use Rattle.waveform.proofs.JumpIsRead as waveform
+use Rattle.fixed_rows.proofs.JumpIsRead as fixed
+use Rattle.waveform.specs.Rows.{waveform}
+use Rattle.waveform.proofs.Rows as waveform-rows
+use Rattle.bursts.specs.Rows.{bursts}
+use Rattle.bursts.proofs.Rows as burst-rows
 use Rattle.reader.specs.declared.Kind.{Kind}
-use Rattle.reader.specs.declared.Kind.the-variants.{Labelled, Waveform}
+use Rattle.reader.specs.declared.Kind.the-variants.{Labelled, Waveform, Bursts}
 use Rattle.reader.specs.Rows.{rowOf}
 use Rattle.reader.specs.Read.{findRow, jumpTo, readRow, jumpRow}
 use Rattle.reader.specs.Demand3.{Supposed, ShowsWindow, Demand3}
@@ -30,7 +34,8 @@ unfolding findRow jumpTo
 same-row (Labelled v) f xs (n, checked, index) k =
     let (rows, accepted, is) = index-check-is-exact v f xs .0 index in
     ap (λ (ys : List ℕ). labelled-jump.jumpTo v f ys k) is ∙ labelled.jump-is-read v f rows accepted k
-same-row Waveform f xs h k = waveform.jump-is-read f k
+same-row Waveform f xs h k = fixed.jump-is-read waveform waveform-rows.takes-bytes f k
+same-row (Bursts first) f xs h k = fixed.jump-is-read (bursts first) (burst-rows.takes-bytes first) f k
 
 -- the window of demand 2's row
 reads-the-window : (kind : Kind) (f : List ℕ) (k a c : ℕ) → readRow kind f k a c ≡ andThen (rowOf kind f k) (windowIn a c)

@@ -1,5 +1,5 @@
 -- Rows that were found lie inside the file.
-use Prim.Native.Nat.{ℕ, _+_, _≤_}
+use Prim.Native.Nat.{ℕ, _+_, _≤_, _<_}
 use mathlib.Core.Path.{_≡_, _∙_, sym, subst}
 use mathlib.Core.List.{List}
 use lib.ListN.{length}
@@ -16,10 +16,16 @@ use Rattle.walk.proofs.Finding.{walk-from-inside, walk-finds-the-row}
 use Rattle.walk.proofs.WalkReads.{found-ends-inside}
 use Rattle.row_index.specs.Jump.{entryFor}
 use Rattle.row_index.specs.Jump as labelled-jump
-use Rattle.waveform.proofs.Rows as waveform
-use Rattle.waveform.proofs.JumpIsRead as waveform-jump
+use Rattle.fixed_rows.specs.Shape.{Shape, step}
+use Rattle.fixed_rows.specs.Jump as fixed
+use Rattle.fixed_rows.proofs.Rows as fixed-rows
+use Rattle.fixed_rows.proofs.JumpIsRead as fixed-jump
+use Rattle.waveform.specs.Rows.{waveform}
+use Rattle.waveform.proofs.Rows as waveform-rows
+use Rattle.bursts.specs.Rows.{bursts}
+use Rattle.bursts.proofs.Rows as burst-rows
 use Rattle.reader.specs.declared.Kind.{Kind}
-use Rattle.reader.specs.declared.Kind.the-variants.{Labelled, Waveform}
+use Rattle.reader.specs.declared.Kind.the-variants.{Labelled, Waveform, Bursts}
 use Rattle.reader.specs.Read.{findRow, jumpTo}
 
 -- the value that a walk came to ends inside the file
@@ -35,7 +41,12 @@ unfolding findRow labelled.findRow
 row-inside (Labelled v) f k p e =
     let q = first-answered (rowsOfFile v f) (λ rows. labelled.nthRow rows k) p e in
     walked-inside v f 0 k p (walk-finds-the-row v f (q .0) (q .1) k ∙ q .2)
-row-inside Waveform f k p e = waveform.row-inside f k p e
+row-inside Waveform f k p e = fixed-rows.row-inside waveform waveform-rows.takes-bytes f k p e
+row-inside (Bursts first) f k p e = fixed-rows.row-inside (bursts first) (burst-rows.takes-bytes first) f k p e
+
+-- a row of one size that the jump came to
+jump-inside : (s : Shape) → 0 < step s → (f : List ℕ) (k : ℕ) (p : Part) → fixed.jumpTo s f k ≡ answer p → p .place + p .count ≤ length f
+jump-inside s some f k p e = fixed-rows.row-inside s some f k p (sym (fixed-jump.jump-is-read s some f k) ∙ e)
 
 -- and one that the jump came to, by any list
 pub jumped-inside : (kind : Kind) (f xs : List ℕ) (k : ℕ) (p : Part) → jumpTo kind f xs k ≡ answer p → p .place + p .count ≤ length f
@@ -44,4 +55,5 @@ jumped-inside (Labelled v) f xs k p e =
     let q = passed 0 (leb (length f) largestFile) 14 _ p e .1 in
     let r = first-answered (entryFor f xs k) _ p q in
     walked-inside v f (r .0) _ p (r .2)
-jumped-inside Waveform f xs k p e = waveform.row-inside f k p (sym (waveform-jump.jump-is-read f k) ∙ e)
+jumped-inside Waveform f xs k p e = jump-inside waveform waveform-rows.takes-bytes f k p e
+jumped-inside (Bursts first) f xs k p e = jump-inside (bursts first) (burst-rows.takes-bytes first) f k p e

@@ -1,6 +1,7 @@
--- Going row after row without checking the file again: from the first byte `rowFrom` gives row 0, and from the end of row k's
+-- Going row after row without checking the file again: from where it begins `rowFrom` gives row 0, and from the end of row k's
 -- bytes it gives row k + 1, or refusal 6 where row k is the last. So a strip is read in time linear in its rows.
-use Prim.Native.Nat.{ℕ, _+_}
+use Prim.Native.Nat.{ℕ, _+_, _<_}
+use native.Mathlib.Nat.{mul-zero, mul-suc}
 use native.Mathlib.Omega.{arith}
 use mathlib.Core.Path.{_≡_, _∙_, sym, ap}
 use mathlib.Core.List.{List, map}
@@ -10,27 +11,48 @@ use Rattle.answer.proofs.Outcomes.{mapped-answer}
 use Rattle.sfdu.specs.Row.{valueOf}
 use Rattle.sfdu.specs.Check.{rowsOfFile}
 use Rattle.walk.proofs.Finding.{walk-finds-the-row, reads-the-row, next-row-found}
-use Rattle.waveform.specs.Rows.{samplesFrom, sampleParts}
-use Rattle.waveform.specs.Check.{rowCount}
-use Rattle.waveform.specs.Read.{readPlace}
-use Rattle.waveform.proofs.Rows.{found-is-row}
-use Rattle.waveform.proofs.GoingOn.{row-begins}
+use Rattle.fixed_rows.specs.Shape.{Shape, step, rowAt}
+use Rattle.fixed_rows.specs.Check.{countRows}
+use Rattle.fixed_rows.specs.Read as fixed-read
+use Rattle.fixed_rows.specs.From as fixed-from
+use Rattle.fixed_rows.specs.Rows as fixed
+use Rattle.fixed_rows.proofs.Rows.{found-is-row}
+use Rattle.fixed_rows.proofs.GoingOn.{row-begins}
+use Rattle.waveform.specs.Rows.{waveform}
+use Rattle.waveform.proofs.Rows as waveform-rows
+use Rattle.bursts.specs.Rows.{bursts}
+use Rattle.bursts.proofs.Rows as burst-rows
 use Rattle.reader.specs.declared.Kind.{Kind}
-use Rattle.reader.specs.declared.Kind.the-variants.{Labelled, Waveform}
+use Rattle.reader.specs.declared.Kind.the-variants.{Labelled, Waveform, Bursts}
 use Rattle.reader.specs.Rows.{rowParts, rowOf}
-use Rattle.reader.specs.Read.{findRow, rowFrom}
+use Rattle.reader.specs.Read.{findRow, rowFrom, beginning}
 use Rattle.reader.proofs.Rows.{reads-the-rows}
 
--- the theorem: on an accepted file, from the first byte on the first row is row 0, and from the end of row k's bytes on it is
+-- the theorem: on an accepted file, from where going on begins the first row is row 0, and from the end of row k's bytes on it is
 -- row k + 1
 pub record GoesOn (kind : Kind) (f : List ℕ) : Type 0 where
-  pub first : rowFrom kind f 0 ≡ rowOf kind f 0
+  pub first : rowFrom kind f (beginning kind) ≡ rowOf kind f 0
   pub next : (k : ℕ) (row : Part) → rowOf kind f k ≡ answer row → rowFrom kind f (row .place + row .count) ≡ rowOf kind f (k + 1)
 
 -- the same of the rows as reading finds them
 record GoesOnReading (kind : Kind) (f : List ℕ) : Type 0 where
-  pub first : rowFrom kind f 0 ≡ findRow kind f 0
+  pub first : rowFrom kind f (beginning kind) ≡ findRow kind f 0
   pub next : (k : ℕ) (row : Part) → findRow kind f k ≡ answer row → rowFrom kind f (row .place + row .count) ≡ findRow kind f (k + 1)
+
+-- of rows of one size: from the first place, and from the end of a row's bytes
+module _ (s : Shape) (some : 0 < step s) (f : List ℕ) (parts : List Part) (e : fixed.rowParts s f ≡ answer parts) where
+  fixed-first : fixed-from.rowFrom s f (s .first) ≡ fixed-read.findRow s f 0
+  fixed-first =
+      let (n, counted, is) = mapped-answer (fixed.rowsFrom s 0) (countRows s f) parts e in
+      row-begins s some f n counted (s .first) 0 (omega (arith, mul-zero (step s)))
+
+  fixed-next : (k : ℕ) (row : Part) → fixed-read.findRow s f k ≡ answer row → fixed-from.rowFrom s f (row .place + row .count) ≡ fixed-read.findRow s f (k + 1)
+  fixed-next k row found =
+      let (n, counted, is) = mapped-answer (fixed.rowsFrom s 0) (countRows s f) parts e in
+      let (start, at, row-is) = mapped-answer (rowAt s) (fixed-read.readStart (s .first) (step s) f k) row found in
+      let starts = found-is-row (s .first) (step s) f k some start at .start in
+      row-begins s some f n counted (row .place + row .count) (k + 1)
+      (ap (λ (p : Part). p .place + p .count) (sym row-is) ∙ omega (arith, starts, mul-suc (step s) k))
 
 reading : (kind : Kind) (f : List ℕ) (parts : List Part) → rowParts kind f ≡ answer parts → GoesOnReading kind f
 unfolding rowParts rowFrom findRow
@@ -41,14 +63,9 @@ reading (Labelled v) f parts e =
       next = λ k row found. next-row-found v f rows accepted k row found;
     }
 reading Waveform f parts e =
-    let (n, counted, is) = mapped-answer (sampleParts 0) (rowCount f) parts e in
-    record {
-      first = row-begins f n counted 0 0 (omega arith);
-      next = λ k row found.
-          let (place, at, row-is) = mapped-answer samplesFrom (readPlace f k) row found in
-          row-begins f n counted (row .place + row .count) (k + 1)
-          (ap (λ (p : Part). p .place + p .count) (sym row-is) ∙ omega (arith, found-is-row f k place at .place));
-    }
+    record { first = fixed-first waveform waveform-rows.takes-bytes f parts e; next = fixed-next waveform waveform-rows.takes-bytes f parts e }
+reading (Bursts first) f parts e =
+    record { first = fixed-first (bursts first) (burst-rows.takes-bytes first) f parts e; next = fixed-next (bursts first) (burst-rows.takes-bytes first) f parts e }
 
 pub goes-on : (kind : Kind) (f : List ℕ) (parts : List Part) → rowParts kind f ≡ answer parts → GoesOn kind f
 goes-on kind f parts e =

@@ -5,19 +5,26 @@ use native.Mathlib.Decide.{decLe}
 use native.Mathlib.Omega.{arith}
 use mathlib.Core.Path.{_≡_, refl, _∙_, sym, ap}
 use mathlib.Core.List.{List, [], _∷_, map}
+use lib.ListN.{drop}
 use Rattle.answer.specs.Outcome.{Outcome, answer, refuse, andThen, mapped}
 use Rattle.answer.proofs.Outcomes.{after-refusal, andThen-assoc, andThen-agrees}
 use Rattle.label.specs.declared.Versions.{Versions}
 use Rattle.sfdu.specs.Row.{Row, valueOf}
 use Rattle.sfdu.specs.Check.{rowsOfFile}
 use Rattle.walk.specs.Find as labelled
-use Rattle.waveform.specs.Rows.{rowSize, prefixSize, firstSample, samplesFrom, sampleParts}
-use Rattle.waveform.specs.Passing.{passing}
-use Rattle.waveform.specs.Check.{rowCount}
-use Rattle.waveform.specs.Read as waveform
-use Rattle.waveform.proofs.Rows.{row-is-there, no-such-row}
+use Rattle.fixed_rows.specs.Shape.{Shape, step, rowAt}
+use Rattle.fixed_rows.specs.Check.{countRows}
+use Rattle.fixed_rows.specs.Read.{passing}
+use Rattle.fixed_rows.specs.Read as fixed-read
+use Rattle.fixed_rows.specs.Jump.{startOf}
+use Rattle.fixed_rows.specs.Rows as fixed
+use Rattle.fixed_rows.proofs.Rows.{row-is-there, no-such-row}
+use Rattle.waveform.specs.Rows.{waveform}
+use Rattle.waveform.proofs.Rows as waveform-rows
+use Rattle.bursts.specs.Rows.{bursts}
+use Rattle.bursts.proofs.Rows as burst-rows
 use Rattle.reader.specs.declared.Kind.{Kind}
-use Rattle.reader.specs.declared.Kind.the-variants.{Labelled, Waveform}
+use Rattle.reader.specs.declared.Kind.the-variants.{Labelled, Waveform, Bursts}
 use Rattle.reader.specs.Rows.{rowParts, nthPart, rowOf}
 use Rattle.reader.specs.Read.{findRow}
 
@@ -34,40 +41,45 @@ labelled-row v f k =
     andThen-assoc (rowsOfFile v f) (λ rows. answer (map valueOf rows)) (λ parts. nthPart parts k)
     ∙ andThen-agrees (rowsOfFile v f) (λ rows. nthPart (map valueOf rows) k) (λ rows. labelled.nthRow rows k) (λ rows. nth-of-map rows k)
 
--- ---- waveform files
+-- ---- rows of one size
 
-nth-sample-part : (n j k : ℕ) → k < n → nthPart (sampleParts j n) k ≡ answer (samplesFrom (firstSample (j + k)))
-nth-sample-part zero j k h = absurd (not-suc-le-zero h)
-nth-sample-part (suc n) j zero h = ap (λ (m : ℕ). answer (samplesFrom (firstSample m))) (sym (add-zero j))
-nth-sample-part (suc n) j (suc k) h =
-    nth-sample-part n (suc j) k (omega arith) ∙ ap (λ (m : ℕ). answer (samplesFrom (firstSample m))) {x = suc j + k} {y = j + suc k} (omega arith)
+module _ (s : Shape) where
+  nth-of-rows : (n j k : ℕ) → k < n → nthPart (fixed.rowsFrom s j n) k ≡ answer (rowAt s (startOf (s .first) (step s) (j + k)))
+  nth-of-rows zero j k h = absurd (not-suc-le-zero h)
+  nth-of-rows (suc n) j zero h = ap (λ (m : ℕ). answer (rowAt s (startOf (s .first) (step s) m))) (sym (add-zero j))
+  nth-of-rows (suc n) j (suc k) h =
+      nth-of-rows n (suc j) k (omega arith)
+      ∙ ap (λ (m : ℕ). answer (rowAt s (startOf (s .first) (step s) m))) {x = suc j + k} {y = j + suc k} (omega arith)
 
-no-sample-part : (n j k : ℕ) → n ≤ k → nthPart (sampleParts j n) k ≡ refuse 6 0
-no-sample-part zero j k h = refl
-no-sample-part (suc n) j zero h = absurd (not-suc-le-zero h)
-no-sample-part (suc n) j (suc k) h = no-sample-part n (suc j) k (omega arith)
+  none-of-rows : (n j k : ℕ) → n ≤ k → nthPart (fixed.rowsFrom s j n) k ≡ refuse 6 0
+  none-of-rows zero j k h = refl
+  none-of-rows (suc n) j zero h = absurd (not-suc-le-zero h)
+  none-of-rows (suc n) j (suc k) h = none-of-rows n (suc j) k (omega arith)
 
-waveform-row : (f : List ℕ) (k : ℕ) → rowOf Waveform f k ≡ waveform.findRow f k
-unfolding rowOf rowParts
-waveform-row f k = andThen-assoc (rowCount f) (λ n. answer (sampleParts 0 n)) (λ parts. nthPart parts k) ∙ cases (rowCount f) refl
-  where
-    counted : (n : ℕ) → rowCount f ≡ answer n → nthPart (sampleParts 0 n) k ≡ waveform.findRow f k
-    counted n e =
+  module _ (some : 0 < step s) (f : List ℕ) (k : ℕ) where
+    nth-is-found : (n : ℕ) → countRows s f ≡ answer n → nthPart (fixed.rowsFrom s 0 n) k ≡ fixed-read.findRow s f k
+    nth-is-found n e =
         elim (decLe n k) [
-          | yes h ↦ no-sample-part n 0 k h ∙ sym (no-such-row f n e k h)
+          | yes h ↦ none-of-rows n 0 k h ∙ sym (no-such-row s some f n e k h)
           | no h ↦
-              nth-sample-part n 0 k (lt-of-not-le h)
-              ∙ ap (λ (m : ℕ). answer (samplesFrom (firstSample m))) {x = 0 + k} {y = k} (omega arith)
-              ∙ sym (row-is-there f n e k (lt-of-not-le h))
+              nth-of-rows n 0 k (lt-of-not-le h)
+              ∙ ap (λ (m : ℕ). answer (rowAt s (startOf (s .first) (step s) m))) {x = 0 + k} {y = k} (omega arith)
+              ∙ sym (row-is-there s some f n e k (lt-of-not-le h))
         ]
 
-    cases : (o : Outcome ℕ) → rowCount f ≡ o → andThen o (λ n. nthPart (sampleParts 0 n) k) ≡ waveform.findRow f k
-    cases (answer n) e = counted n e
-    cases (refuse n p) e = sym (ap (mapped samplesFrom) (after-refusal (rowCount f) (λ rows. passing rowSize prefixSize k 0 f) n p e))
+    by-the-count : (o : Outcome ℕ) → countRows s f ≡ o → andThen o (λ n. nthPart (fixed.rowsFrom s 0 n) k) ≡ fixed-read.findRow s f k
+    by-the-count (answer n) e = nth-is-found n e
+    by-the-count (refuse n p) e =
+        sym (ap (mapped (rowAt s)) (after-refusal (countRows s f) (λ rows. passing (step s) k (s .first) (drop (s .first) f)) n p e))
+
+    fixed-row : andThen (fixed.rowParts s f) (λ parts. nthPart parts k) ≡ fixed-read.findRow s f k
+    fixed-row =
+        andThen-assoc (countRows s f) (λ n. answer (fixed.rowsFrom s 0 n)) (λ parts. nthPart parts k) ∙ by-the-count (countRows s f) refl
 
 -- ---- any kind
 
 pub reads-the-rows : (kind : Kind) (f : List ℕ) (k : ℕ) → findRow kind f k ≡ rowOf kind f k
-unfolding findRow
+unfolding findRow rowOf rowParts
 reads-the-rows (Labelled v) f k = sym (labelled-row v f k)
-reads-the-rows Waveform f k = sym (waveform-row f k)
+reads-the-rows Waveform f k = sym (fixed-row waveform waveform-rows.takes-bytes f k)
+reads-the-rows (Bursts first) f k = sym (fixed-row (bursts first) (burst-rows.takes-bytes first) f k)

@@ -1,6 +1,7 @@
 -- Demand 3: "The jump and reading from the first byte give the same answer, whatever the row and window", where "the documents
 -- call for it and nowhere else". For labelled files it supposes that the check and the index check accept, told the same choice of
--- versions as reading and the jump (document 02, item 11: "suppose one choice throughout"); for waveform files it supposes nothing.
+-- versions as reading and the jump (document 02, item 11: "suppose one choice throughout"); for waveform files and bursts, from any first
+-- place, it supposes nothing.
 use Prim.Native.Nat.{ℕ, _+_, _<_}
 use mathlib.Core.Path.{_≡_}
 use mathlib.Core.List.{List}
@@ -12,12 +13,13 @@ use Rattle.row_index.specs.Index.{checkIndex}
 use Rattle.reader.specs.Rows.{rowOf, checkFile}
 use Rattle.reader.specs.Read.{readRow, jumpRow}
 use Rattle.reader.specs.declared.Kind.{Kind}
-use Rattle.reader.specs.declared.Kind.the-variants.{Labelled, Waveform}
+use Rattle.reader.specs.declared.Kind.the-variants.{Labelled, Waveform, Bursts}
 
 -- what is supposed of a file and a list
 abbrev pub Supposed : Kind → List ℕ → List ℕ → Type 0
 Supposed (Labelled versions) f xs = (n : ℕ) × (checkFile (Labelled versions) f ≡ answer n) × (checkIndex versions f xs ≡ answer tt)
 Supposed Waveform f xs = Unit
+Supposed (Bursts first) f xs = Unit
 
 -- the part that is shown is the window (a, c) of row k, as demand 2 gives the rows: it begins a bytes after the row's first
 -- byte, has c bytes, and these are those of the row from a on; byte i of it is the file's byte at row's place + a + i

@@ -1,6 +1,6 @@
 -- Reading a window of a row from the first byte, and jumping to it, over the kinds of file (document 01: labelled files
--- "14, any fault, 6, 7" and "14, 6 for a missing entry, 11, then 1 to 4 or 6 as met, 7"; waveform files 14, 12, 6, 7). The two
--- ways to the row are each kind's own; the window comes after.
+-- "14, any fault, 6, 7" and "14, 6 for a missing entry, 11, then 1 to 4 or 6 as met, 7"; waveform files 14, 12, 6, 7; document 02,
+-- item 1: bursts 14, 16, 12, 6, 7). The two ways to the row are each kind's own; the window comes after.
 use Prim.Native.Nat.{ℕ}
 use mathlib.Core.List.{List}
 use Rattle.answer.specs.Outcome.{Outcome, andThen}
@@ -9,21 +9,25 @@ use Rattle.answer.specs.declared.Part.{Part}
 use Rattle.walk.specs.Walk.{walkFrom}
 use Rattle.walk.specs.Find as labelled-read
 use Rattle.row_index.specs.Jump as labelled-jump
-use Rattle.waveform.specs.Read as waveform-read
-use Rattle.waveform.specs.Jump as waveform-jump
-use Rattle.waveform.specs.From as waveform-from
+use Rattle.fixed_rows.specs.Read as fixed-read
+use Rattle.fixed_rows.specs.Jump as fixed-jump
+use Rattle.fixed_rows.specs.From as fixed-from
+use Rattle.waveform.specs.Rows.{waveform}
+use Rattle.bursts.specs.Rows.{bursts}
 use Rattle.reader.specs.declared.Kind.{Kind}
-use Rattle.reader.specs.declared.Kind.the-variants.{Labelled, Waveform}
+use Rattle.reader.specs.declared.Kind.the-variants.{Labelled, Waveform, Bursts}
 
 -- the row, found from the first byte with no index
 unfoldable pub findRow : Kind → List ℕ → ℕ → Outcome Part
 findRow (Labelled versions) f k = labelled-read.findRow versions f k
-findRow Waveform f k = waveform-read.findRow f k
+findRow Waveform f k = fixed-read.findRow waveform f k
+findRow (Bursts first) f k = fixed-read.findRow (bursts first) f k
 
--- the row, jumped to; a waveform file needs no list
+-- the row, jumped to; only a labelled file needs a list
 unfoldable pub jumpTo : Kind → List ℕ → List ℕ → ℕ → Outcome Part
 jumpTo (Labelled versions) f xs k = labelled-jump.jumpTo versions f xs k
-jumpTo Waveform f xs k = waveform-jump.jumpTo f k
+jumpTo Waveform f xs k = fixed-jump.jumpTo waveform f k
+jumpTo (Bursts first) f xs k = fixed-jump.jumpTo (bursts first) f k
 
 -- reading from the first byte
 unfoldable pub readRow : Kind → List ℕ → ℕ → ℕ → ℕ → Outcome Part
@@ -33,8 +37,15 @@ readRow kind f k a c = andThen (findRow kind f k) (windowIn a c)
 unfoldable pub jumpRow : Kind → List ℕ → List ℕ → ℕ → ℕ → ℕ → Outcome Part
 jumpRow kind f xs k a c = andThen (jumpTo kind f xs k) (windowIn a c)
 
--- Going on (docs/DECISIONS.md): the first whole row from a place on; 14, 12 where the kind has it, 6 for a place past the end or
+-- Going on (docs/DECISIONS.md): the first whole row from a place on; 14, 16 and 12 where the kind has them, 6 for a place past the end or
 -- where no row can start, else what the walk meets.
 unfoldable pub rowFrom : Kind → List ℕ → ℕ → Outcome Part
 rowFrom (Labelled versions) f from = andThen (walkFrom versions f from 0) labelled-read.valueAtLeaf
-rowFrom Waveform f from = waveform-from.rowFrom f from
+rowFrom Waveform f from = fixed-from.rowFrom waveform f from
+rowFrom (Bursts first) f from = fixed-from.rowFrom (bursts first) f from
+
+-- where going on begins: the place from which the first row is row 0
+abbrev pub beginning : Kind → ℕ
+beginning (Labelled versions) = 0
+beginning Waveform = 0
+beginning (Bursts first) = first

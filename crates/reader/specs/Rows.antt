@@ -1,21 +1,25 @@
 -- The rows of a file of any kind, as demand 2 gives them: which bytes of the file each row is (document 01, "The rows of a
--- labelled file are its leaves in file order"; "The rows of a waveform file are its 2,048-byte sample parts"). The labelled kind
--- carries the choice of versions (document 02, item 11), one for every call over the kind.
+-- labelled file are its leaves in file order"; "The rows of a waveform file are its 2,048-byte sample parts"; document 02, item 1: "A
+-- row is a whole record of 1,272 bytes"). The labelled kind carries the choice of versions (document 02, item 11) and that of bursts
+-- the first record's place, one for every call over the kind.
 use Prim.Native.Nat.{ℕ, zero, suc}
 use mathlib.Core.List.{List, [], _∷_, map}
 use Rattle.answer.specs.Outcome.{Outcome, answer, refuse, andThen, mapped}
 use Rattle.answer.specs.declared.Part.{Part}
 use Rattle.sfdu.specs.Row.{valueOf}
 use Rattle.sfdu.specs.Check.{rowsOfFile, checkLabelled}
-use Rattle.waveform.specs.Rows.{sampleParts}
-use Rattle.waveform.specs.Check.{rowCount}
+use Rattle.fixed_rows.specs.Check.{countRows}
+use Rattle.fixed_rows.specs.Rows as fixed
+use Rattle.waveform.specs.Rows.{waveform}
+use Rattle.bursts.specs.Rows.{bursts}
 use Rattle.reader.specs.declared.Kind.{Kind}
-use Rattle.reader.specs.declared.Kind.the-variants.{Labelled, Waveform}
+use Rattle.reader.specs.declared.Kind.the-variants.{Labelled, Waveform, Bursts}
 
 -- the rows, in file order
 unfoldable pub rowParts : Kind → List ℕ → Outcome (List Part)
 rowParts (Labelled versions) f = mapped (map valueOf) (rowsOfFile versions f)
-rowParts Waveform f = mapped (sampleParts 0) (rowCount f)
+rowParts Waveform f = fixed.rowParts waveform f
+rowParts (Bursts first) f = fixed.rowParts (bursts first) f
 
 -- the row with this number, counted from 0
 abbrev pub nthPart : List Part → ℕ → Outcome Part
@@ -26,7 +30,8 @@ nthPart (p ∷ ps) (suc k) = nthPart ps k
 -- the check of a file: how many rows it has
 unfoldable pub checkFile : Kind → List ℕ → Outcome ℕ
 checkFile (Labelled versions) f = checkLabelled versions f
-checkFile Waveform f = rowCount f
+checkFile Waveform f = countRows waveform f
+checkFile (Bursts first) f = countRows (bursts first) f
 
 -- row k of a file: its place and its size, or why there is none
 unfoldable pub rowOf : Kind → List ℕ → ℕ → Outcome Part

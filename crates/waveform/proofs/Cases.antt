@@ -5,14 +5,15 @@ use mathlib.Core.List.{List, []}
 use lib.ListN.{length}
 use lib.IntN.{pos, negℤ}
 use Rattle.answer.specs.Outcome.{answer, refuse}
-use Rattle.waveform.specs.Check.{rowCount}
+use Rattle.fixed_rows.specs.Check.{countRows}
+use Rattle.waveform.specs.Rows.{waveform}
 use Rattle.waveform.specs.Sample.{twiceAmplitude}
 
 -- 7: a file of 2,079 bytes gives 12; of 0 bytes, 0 rows
-pub one-byte-short : (f : List ℕ) → length f ≡ 2079 → rowCount f ≡ refuse 12 0
+pub one-byte-short : (f : List ℕ) → length f ≡ 2079 → countRows waveform f ≡ refuse 12 0
 one-byte-short f e = simp e
 
-pub empty-file : rowCount [] ≡ answer 0
+pub empty-file : countRows waveform [] ≡ answer 0
 empty-file = refl
 
 -- 10: samples 0, 127, 128, 255 give −255, −1, 1, 255

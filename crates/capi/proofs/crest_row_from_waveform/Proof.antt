@@ -1,4 +1,5 @@
--- `capi::crest_row_from_waveform` meets its contract: `hand::part` hands over what `reader::row_from` promises.
+-- `capi::crest_row_from_waveform` meets its contract: `hand::part` hands over what `waveform::row_from` promises.
+use Rattle.reader.specs.Read.{rowFrom}
 use borrow.Author.Needs.{needs}
 use Rattle.capi.proofs.crest_row_from_waveform.Statement.{statement}
 use Rattle.capi.proofs.crest_row_from_waveform.Tie as tie
@@ -10,6 +11,7 @@ part-requires : tie.Need-part-requires
 part-requires c κs = search needs
 
 returns : tie.Need-returns
+unfolding rowFrom
 returns c = rw (c .before .before .before .row-from .ensures) at (c .part .ensures)
 
 pub crest-row-from-waveform-spec : {M : Type 1} → statement M

@@ -19,6 +19,12 @@ enum-told c = search needs
 find-row-requires-2 : tie.Need-find-row-requires-2
 find-row-requires-2 c κs = search needs
 
+enum-known-kind-2 : tie.Need-enum-known-kind-2
+enum-known-kind-2 c = search needs
+
+find-row-requires-3 : tie.Need-find-row-requires-3
+find-row-requires-3 c κs = search needs
+
 returns : tie.Need-returns
 unfolding findRow
 returns c =
@@ -31,6 +37,22 @@ returns-2 c =
     let a = c .before .before .before .before .args in
     c .find-row2 .ensures ∙ ap (λ (t : Kind). findRow t (now (a .file)) (a .k)) (sym (c .before .enum-told .given .1))
 
+returns-3 : tie.Need-returns-3
+unfolding findRow
+returns-3 c =
+    let a = c .before .before .before .before .before .args in
+    c .find-row3 .ensures ∙ ap (λ (t : Kind). findRow t (now (a .file)) (a .k)) (sym (c .before .before .kind2 .given .1))
+
 pub find-row-spec : {M : Type 1} → statement M
 find-row-spec =
-    tie.close (tie.spec enum-known-kind find-row-requires enum-told find-row-requires-2 returns returns-2)
+    tie.close
+    (tie.spec
+    enum-known-kind
+    find-row-requires
+    enum-told
+    find-row-requires-2
+    enum-known-kind-2
+    find-row-requires-3
+    returns
+    returns-2
+    returns-3)

@@ -1,29 +1,58 @@
--- `reader::jump_row` meets its contract: the window of the row that was found, which lies inside the file, so that the window's
--- place fits.
-use native.Mathlib.Omega.{arith}
+-- `reader::jump_row` meets its contract: by the kind.
 use mathlib.Core.Path.{_∙_, sym, ap}
-use Rattle.answer.specs.Outcome.{Outcome, andThen}
-use Rattle.answer.specs.Window.{windowIn}
-use Rattle.answer.specs.declared.Part.{Part}
-use Rattle.reader.specs.Read.{jumpRow}
-use Rattle.reader.proofs.Found.{jumped-inside}
+use denote.Ref.{now}
+use Rattle.reader.specs.declared.Kind.{Kind}
+use Rattle.reader.specs.Read.{jumpTo, jumpRow}
 use borrow.Author.Needs.{needs}
 use Rattle.reader.proofs.jump_row.Statement.{statement}
 use Rattle.reader.proofs.jump_row.Tie as tie
 
-jump-to-requires : tie.Need-jump-to-requires
-jump-to-requires c κs = search needs
+enum-known-kind : tie.Need-enum-known-kind
+enum-known-kind c = search needs
 
-window-in-requires : tie.Need-window-in-requires
-window-in-requires c κs =
-    λ p e. omega (arith, jumped-inside _ _ _ _ p (sym (c .jump-to .ensures) ∙ e), c .before .before .before .good .1 .1 .0 .1)
+jump-labelled-requires : tie.Need-jump-labelled-requires
+jump-labelled-requires c κs = search needs
+
+enum-told : tie.Need-enum-told
+enum-told c = search needs
+
+jump-waveform-requires : tie.Need-jump-waveform-requires
+jump-waveform-requires c κs = search needs
+
+enum-known-kind-2 : tie.Need-enum-known-kind-2
+enum-known-kind-2 c = search needs
+
+jump-bursts-requires : tie.Need-jump-bursts-requires
+jump-bursts-requires c κs = search needs
 
 returns : tie.Need-returns
-unfolding jumpRow
+unfolding jumpRow jumpTo
 returns c =
-    let a = c .before .before .before .before .args in
-    c .window-in .ensures
-    ∙ ap (λ (o : Outcome Part). andThen o (windowIn (a .a) (a .c))) (c .before .jump-to .ensures)
+    let a = c .before .before .before .before .before .before .args in
+    c .jump-labelled .ensures ∙ ap (λ (t : Kind). jumpRow t (now (a .file)) (now (a .list)) (a .k) (a .a) (a .c)) (sym (c .before .before .kind .given .1))
+
+returns-2 : tie.Need-returns-2
+unfolding jumpRow jumpTo
+returns-2 c =
+    let a = c .before .before .before .before .before .args in
+    c .jump-waveform .ensures ∙ ap (λ (t : Kind). jumpRow t (now (a .file)) (now (a .list)) (a .k) (a .a) (a .c)) (sym (c .before .enum-told .given .1))
+
+returns-3 : tie.Need-returns-3
+unfolding jumpRow jumpTo
+returns-3 c =
+    let a = c .before .before .before .before .before .before .args in
+    c .jump-bursts .ensures ∙ ap (λ (t : Kind). jumpRow t (now (a .file)) (now (a .list)) (a .k) (a .a) (a .c)) (sym (c .before .before .kind2 .given .1))
 
 pub jump-row-spec : {M : Type 1} → statement M
-jump-row-spec = tie.close (tie.spec jump-to-requires window-in-requires returns)
+jump-row-spec =
+    tie.close
+    (tie.spec
+    enum-known-kind
+    jump-labelled-requires
+    enum-told
+    jump-waveform-requires
+    enum-known-kind-2
+    jump-bursts-requires
+    returns
+    returns-2
+    returns-3)

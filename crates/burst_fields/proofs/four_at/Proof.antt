@@ -1,0 +1,51 @@
+-- `burst_fields::four_at` meets its contract: the four bytes are those from the place on.
+use mathlib.Core.Path.{_∙_, sym, ap}
+use denote.Ref.{now}
+use Rattle.little.specs.LittleEndian.{leNumber}
+use Rattle.little.proofs.LittleEndian.{four-bytes}
+use borrow.Author.Needs.{needs}
+use Rattle.burst_fields.proofs.four_at.Statement.{statement}
+use Rattle.burst_fields.proofs.four_at.Tie as tie
+
+shared-slice-read-four : tie.Need-shared-slice-read-four
+shared-slice-read-four c = search needs
+
+add-four : tie.Need-add-four
+add-four c = search needs
+
+shared-slice-read-four-2 : tie.Need-shared-slice-read-four-2
+shared-slice-read-four-2 c = search needs
+
+add-four-2 : tie.Need-add-four-2
+add-four-2 c = search needs
+
+shared-slice-read-four-3 : tie.Need-shared-slice-read-four-3
+shared-slice-read-four-3 c = search needs
+
+add-four-3 : tie.Need-add-four-3
+add-four-3 c = search needs
+
+shared-slice-read-four-4 : tie.Need-shared-slice-read-four-4
+shared-slice-read-four-4 c = search needs
+
+four-requires : tie.Need-four-requires
+four-requires c κs = search needs
+
+returns : tie.Need-returns
+returns c =
+    let start = c .before .before .before .before .before .before in
+    c .four .ensures ∙ sym (ap leNumber (four-bytes (now (start .args .bytes)) (start .args .at) (start .pre)))
+
+pub four-at-spec : {M : Type 1} → statement M
+four-at-spec =
+    tie.close
+    (tie.spec
+    shared-slice-read-four
+    add-four
+    shared-slice-read-four-2
+    add-four-2
+    shared-slice-read-four-3
+    add-four-3
+    shared-slice-read-four-4
+    four-requires
+    returns)
