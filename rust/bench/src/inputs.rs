@@ -6,6 +6,10 @@ pub const ROWS: usize = 200_000;
 /// The rows of the waveform file.
 pub const WAVEFORM_ROWS: usize = 10_000;
 
+/// The rows of the burst file, and the place of the first one.
+pub const BURST_ROWS: usize = 10_000;
+pub const BURST_START: usize = 1_272;
+
 /// A small source of numbers (xorshift), the same each time.
 pub struct Numbers(u64);
 
@@ -92,6 +96,11 @@ pub fn labels(numbers: &mut Numbers, count: usize, form: Form) -> Vec<[u8; 20]> 
 
 pub fn waveform(numbers: &mut Numbers) -> Vec<u8> {
     let bytes = 0..WAVEFORM_ROWS * 2_080;
+    bytes.map(|_| numbers.below(256) as u8).collect()
+}
+
+pub fn bursts(numbers: &mut Numbers) -> Vec<u8> {
+    let bytes = 0..BURST_START + BURST_ROWS * 1_272;
     bytes.map(|_| numbers.below(256) as u8).collect()
 }
 

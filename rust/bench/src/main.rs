@@ -4,8 +4,10 @@
 mod inputs;
 mod plain;
 
-use crestulbino::{Kind, Versions, Window};
-use inputs::{Numbers, BINARY, DIGITS, ROWS, SPACES_AND_DIGITS, WAVEFORM_ROWS};
+use crestulbino::{Beams, Field, Kind, Verdict, Versions, Window};
+use inputs::{
+    Numbers, BINARY, BURST_ROWS, BURST_START, DIGITS, ROWS, SPACES_AND_DIGITS, WAVEFORM_ROWS,
+};
 use std::hint::black_box;
 use std::time::{Duration, Instant};
 
@@ -33,6 +35,7 @@ fn main() {
     let mut numbers = Numbers::new();
     let file = inputs::labelled(&mut numbers, DIGITS);
     let waveform = inputs::waveform(&mut numbers);
+    let bursts = inputs::bursts(&mut Numbers::new());
     let times = inputs::vax_numbers(&mut numbers, NUMBERS);
     let [padded, binary] =
         [SPACES_AND_DIGITS, BINARY].map(|form| inputs::labelled(&mut Numbers::new(), form));
@@ -43,7 +46,7 @@ fn main() {
         (0..JUMPS).map(|_| numbers.below(of)).collect()
     };
     println!(
-        "{ROWS} rows of 0 to 63 bytes two deep, {} bytes; {WAVEFORM_ROWS} waveform rows; best of {ROUNDS}\n",
+        "{ROWS} rows of 0 to 63 bytes two deep, {} bytes; {WAVEFORM_ROWS} waveform rows; {BURST_ROWS} bursts; best of {ROUNDS}\n",
         file.len()
     );
     println!("| Call | Proved | Plain Rust | Ratio |");
@@ -58,6 +61,9 @@ fn main() {
     check_labelled("check labelled, both versions allowed, a row", BOTH, &file);
     labelled_calls(" version 2", BOTH, &binary, &rows(ROWS));
     read_labels("read_label version 2, a label", BOTH, &binary_labels);
+    burst_rows(&bursts, &rows(BURST_ROWS));
+    burst_fields(&bursts);
+    burst_numbers();
 }
 
 /// The calls on a labelled file, with these words behind their names.
@@ -197,6 +203,167 @@ fn waveform_calls(file: &[u8], rows: &[usize]) {
                 plain::jump_waveform(file, row, 0, 0).map_or(0, |(place, _)| place)
             })
         },
+    );
+}
+
+fn burst_rows(file: &[u8], rows: &[usize]) {
+    let last = BURST_ROWS - 1;
+    let kind = Kind::Bursts(BURST_START);
+    compare(
+        "read_row bursts, row 9,999",
+        REPEATS,
+        || {
+            sum(&[last; REPEATS], |row| {
+                crestulbino::read_row(kind, file, row, EMPTY).map_or(0, |row| row.place)
+            })
+        },
+        || {
+            sum(&[last; REPEATS], |row| {
+                plain::read_row_bursts(file, BURST_START, row, 0, 0).map_or(0, |(place, _)| place)
+            })
+        },
+    );
+    compare(
+        "jump_bursts, a jump",
+        rows.len(),
+        || {
+            sum(rows, |row| {
+                crestulbino::jump_bursts(file, BURST_START, row, EMPTY).map_or(0, |row| row.place)
+            })
+        },
+        || {
+            sum(rows, |row| {
+                plain::jump_bursts(file, BURST_START, row, 0, 0).map_or(0, |(place, _)| place)
+            })
+        },
+    );
+    compare(
+        "row_from bursts row after row, a row",
+        BURST_ROWS,
+        || {
+            let (mut from, mut rows) = (BURST_START, 0);
+            while let Ok(row) = crestulbino::row_from(kind, black_box(file), from) {
+                from = row.end();
+                rows += 1;
+            }
+            rows
+        },
+        || {
+            let (mut from, mut rows) = (BURST_START, 0);
+            let next = |from| plain::row_from_bursts(black_box(file), BURST_START, from);
+            while let Ok((place, bytes)) = next(from) {
+                from = place + bytes.len();
+                rows += 1;
+            }
+            rows
+        },
+    );
+}
+
+/// Fields row after row, as a listing reads them, and rows and fields at random.
+fn burst_fields(file: &[u8]) {
+    const LIMITED: [usize; 8] = [7, 9, 33, 34, 47, 64, 144, 251];
+    let mut numbers = Numbers::new();
+    let mut asked = |position: &mut dyn FnMut(&mut Numbers) -> usize| -> Vec<(usize, usize)> {
+        let mut one = || (numbers.below(BURST_ROWS), position(&mut numbers));
+        (0..NUMBERS).map(|_| one()).collect()
+    };
+    let any = asked(&mut |numbers| 1 + numbers.below(255));
+    let limited = asked(&mut |numbers| LIMITED[numbers.below(LIMITED.len())]);
+    let in_order = |fields: &[usize]| -> Vec<(usize, usize)> {
+        let one = |i| (i / fields.len(), fields[i % fields.len()]);
+        (0..NUMBERS).map(one).collect()
+    };
+    let all: Vec<usize> = (1..=255).collect();
+    burst_values("burst_field, in order", file, &in_order(&all));
+    burst_values("burst_field, at random", file, &any);
+    burst_verdicts("burst_verdict, in order", file, &in_order(&LIMITED));
+    burst_verdicts("burst_verdict, at random", file, &limited);
+}
+
+fn burst_values(call: &str, file: &[u8], asked: &[(usize, usize)]) {
+    compare(
+        call,
+        REPEATS * asked.len(),
+        || {
+            repeated(asked, |&(row, position)| {
+                let field = crestulbino::burst_field(file, BURST_START, row, position as u64);
+                field.map_or(0, |field| match field {
+                    Field::Unsigned(number) => number as usize,
+                    Field::Signed(number) => number as usize,
+                    Field::Float4(bits) => bits as usize,
+                    Field::Float8(bits) => bits as usize,
+                    Field::Text(text) => text.place + text.bytes.len(),
+                })
+            })
+        },
+        || {
+            repeated(asked, |&(row, position)| {
+                let field = plain::burst_field(file, BURST_START, row, position);
+                field.map_or(0, |field| match field {
+                    plain::Field::Unsigned(number) => number as usize,
+                    plain::Field::Signed(number) => number as usize,
+                    plain::Field::Float4(bits) => bits as usize,
+                    plain::Field::Float8(bits) => bits as usize,
+                    plain::Field::Text(place, bytes) => place + bytes.len(),
+                })
+            })
+        },
+    );
+}
+
+fn burst_verdicts(call: &str, file: &[u8], asked: &[(usize, usize)]) {
+    compare(
+        call,
+        REPEATS * asked.len(),
+        || {
+            repeated(asked, |&(row, position)| {
+                let verdict = crestulbino::burst_verdict(file, BURST_START, row, position as u64);
+                verdict.map_or(9, |verdict| match verdict {
+                    Verdict::Below => 0,
+                    Verdict::Inside => 1,
+                    Verdict::Above => 2,
+                })
+            })
+        },
+        || {
+            repeated(asked, |&(row, position)| {
+                plain::burst_verdict(file, BURST_START, row, position).unwrap_or(9)
+            })
+        },
+    );
+}
+
+/// Masks and modes of which half are too large.
+fn burst_numbers() {
+    let mut numbers = Numbers::new();
+    let mut below =
+        |limit| -> Vec<u64> { (0..NUMBERS).map(|_| numbers.below(limit) as u64).collect() };
+    let (masks, modes) = (below(64), below(16));
+    compare(
+        "beams, a mask",
+        REPEATS * masks.len(),
+        || {
+            repeated(&masks, |&mask| match crestulbino::beams(mask) {
+                Beams::Inside(beams) => beams as usize,
+                Beams::Above => 9,
+            })
+        },
+        || {
+            repeated(&masks, |&mask| {
+                plain::beams(mask).map_or(9, |beams| beams as usize)
+            })
+        },
+    );
+    compare(
+        "mode, a number",
+        REPEATS * modes.len(),
+        || {
+            repeated(&modes, |&number| {
+                crestulbino::mode(number).map_or(8, |mode| mode.number() as usize)
+            })
+        },
+        || repeated(&modes, |&number| plain::mode(number) as usize),
     );
 }
 

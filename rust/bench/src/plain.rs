@@ -289,22 +289,29 @@ fn check_waveform(file: &[u8]) -> Result<usize, Fault> {
     Ok(file.len() / RECORD)
 }
 
-/// Reads a window of a row of a waveform file by passing the rows in front of it. The compiler is
-/// not told how long a row is, or it would compute the place, which is the jump.
+/// Reads a window of a row of a waveform file by passing the rows in front of it.
 #[inline(never)]
 pub fn read_row_waveform(file: &[u8], row: usize, first: usize, count: usize) -> Shown<'_> {
     check_waveform(file)?;
-    let record = black_box(RECORD);
-    let mut place = 0;
+    let place = pass_rows(file, 0, RECORD, row)?;
+    window(file, place + PREFIX, SAMPLES, first, count)
+}
+
+/// Where a row starts, found by passing the rows in front of it. The compiler is not told how long
+/// a row is, or it would compute the place, which is the jump.
+#[inline(always)]
+fn pass_rows(file: &[u8], start: usize, bytes: usize, row: usize) -> Result<usize, Fault> {
+    let bytes = black_box(bytes);
+    let mut place = start;
     let mut passed = 0;
     while passed < row && place < file.len() {
-        place += record;
+        place += bytes;
         passed += 1;
     }
     if place == file.len() {
         return Err((6, 0));
     }
-    window(file, place + PREFIX, SAMPLES, first, count)
+    Ok(place)
 }
 
 /// Reads a window of a row of a waveform file at its computed place.
@@ -314,6 +321,210 @@ pub fn jump_waveform(file: &[u8], row: usize, first: usize, count: usize) -> Sho
         return Err((6, 0));
     }
     window(file, row * RECORD + PREFIX, SAMPLES, first, count)
+}
+
+const BURST: usize = 1_272;
+
+fn check_bursts(file: &[u8], start: usize) -> Result<usize, Fault> {
+    check_size(file)?;
+    let rest = file.len().checked_sub(start).ok_or((16, 0))?;
+    if !rest.is_multiple_of(BURST) {
+        return Err((12, 0));
+    }
+    Ok(rest / BURST)
+}
+
+/// Reads a window of a row of a burst file by passing the rows in front of it.
+#[inline(never)]
+pub fn read_row_bursts(
+    file: &[u8],
+    start: usize,
+    row: usize,
+    first: usize,
+    count: usize,
+) -> Shown<'_> {
+    check_bursts(file, start)?;
+    let place = pass_rows(file, start, BURST, row)?;
+    window(file, place, BURST, first, count)
+}
+
+/// Reads a window of a row of a burst file at its computed place.
+#[inline(never)]
+pub fn jump_bursts(file: &[u8], start: usize, row: usize, first: usize, count: usize) -> Shown<'_> {
+    window(file, burst(file, start, row)?, BURST, first, count)
+}
+
+/// Gives the row of a burst file that begins at a place.
+#[inline(never)]
+pub fn row_from_bursts(file: &[u8], start: usize, from: usize) -> Shown<'_> {
+    check_bursts(file, start)?;
+    let is_row = from >= start && from < file.len() && (from - start).is_multiple_of(BURST);
+    if !is_row {
+        return Err((6, 0));
+    }
+    window(file, from, BURST, 0, BURST)
+}
+
+/// The place of a row of a burst file.
+fn burst(file: &[u8], start: usize, row: usize) -> Result<usize, Fault> {
+    if row >= check_bursts(file, start)? {
+        return Err((6, 0));
+    }
+    Ok(start + row * BURST)
+}
+
+/// What a field of a burst holds; of a text its place, and its bytes.
+pub enum Field<'a> {
+    Unsigned(u32),
+    Signed(i32),
+    Float4(u32),
+    Float8(u64),
+    Text(usize, &'a [u8]),
+}
+
+#[derive(Clone, Copy)]
+enum Type {
+    Unsigned,
+    Signed,
+    Float4,
+    Float8,
+    Text16,
+    Text24,
+}
+
+/// So many fields of a type follow one another.
+const RUNS: [(usize, Type); 29] = [
+    (3, Type::Unsigned),
+    (3, Type::Float4),
+    (28, Type::Unsigned),
+    (6, Type::Float4),
+    (3, Type::Unsigned),
+    (2, Type::Float4),
+    (2, Type::Unsigned),
+    (3, Type::Float4),
+    (4, Type::Unsigned),
+    (4, Type::Float4),
+    (12, Type::Unsigned),
+    (72, Type::Float4),
+    (2, Type::Unsigned),
+    (1, Type::Float4),
+    (1, Type::Unsigned),
+    (2, Type::Float8),
+    (2, Type::Text24),
+    (3, Type::Float8),
+    (1, Type::Text16),
+    (1, Type::Text24),
+    (4, Type::Float8),
+    (3, Type::Float4),
+    (1, Type::Unsigned),
+    (36, Type::Float8),
+    (3, Type::Float4),
+    (1, Type::Signed),
+    (47, Type::Float4),
+    (1, Type::Unsigned),
+    (4, Type::Float4),
+];
+
+/// Each field's place in the record, and its type.
+static FIELDS: [(u16, Type); 255] = fields();
+
+const fn fields() -> [(u16, Type); 255] {
+    let mut fields = [(0, Type::Unsigned); 255];
+    let (mut run, mut at, mut place) = (0, 0, 0);
+    while run < RUNS.len() {
+        let (count, of) = RUNS[run];
+        let end = at + count;
+        while at < end {
+            fields[at] = (place, of);
+            place += match of {
+                Type::Unsigned | Type::Signed | Type::Float4 => 4,
+                Type::Float8 => 8,
+                Type::Text16 => 16,
+                Type::Text24 => 24,
+            };
+            at += 1;
+        }
+        run += 1;
+    }
+    fields
+}
+
+/// Reads a field of a row of a burst file.
+#[inline(never)]
+pub fn burst_field(
+    file: &[u8],
+    start: usize,
+    row: usize,
+    position: usize,
+) -> Result<Field<'_>, Fault> {
+    let place = burst(file, start, row)?;
+    let before = position.wrapping_sub(1);
+    let &(place_in_row, of) = FIELDS.get(before).ok_or((10, 0))?;
+    let place = place + usize::from(place_in_row);
+    Ok(match of {
+        Type::Unsigned => Field::Unsigned(four_at(file, place)),
+        Type::Signed => Field::Signed(four_at(file, place) as i32),
+        Type::Float4 => Field::Float4(four_at(file, place)),
+        Type::Float8 => {
+            let low = u64::from(four_at(file, place));
+            Field::Float8(u64::from(four_at(file, place + 4)) << 32 | low)
+        }
+        Type::Text16 => Field::Text(place, &file[place..place + 16]),
+        Type::Text24 => Field::Text(place, &file[place..place + 24]),
+    })
+}
+
+#[inline(always)]
+fn four_at(file: &[u8], place: usize) -> u32 {
+    let bytes = &file[place..place + 4];
+    u32::from_le_bytes([bytes[0], bytes[1], bytes[2], bytes[3]])
+}
+
+/// The limits of a field of a burst.
+fn burst_limits(position: usize) -> Option<(u32, u32)> {
+    Some(match position {
+        34 | 68 => (0, 7),
+        30 | 31 | 69 => (0, 15),
+        33 => (0, 31),
+        7 | 19..=22 | 28 | 32 | 51 | 53 | 54 => (0, 255),
+        23 => (0, 2_047),
+        41..=43 | 65 | 67 | 70 => (0, 4_095),
+        144 | 251 => (0, 32_000),
+        25 => (0, 64_094),
+        9..=11 | 13 | 14 | 16..=18 | 27 | 59..=61 => (0, 65_535),
+        62 => (1, 12),
+        63 => (1, 31),
+        46 => (1, 255),
+        47 => (216, 749),
+        64 => (1_990, 2_010),
+        _ => return None,
+    })
+}
+
+/// Compares a field of a row of a burst file with its limits: 0, 1 or 2.
+#[inline(never)]
+pub fn burst_verdict(
+    file: &[u8],
+    start: usize,
+    row: usize,
+    position: usize,
+) -> Result<usize, Fault> {
+    let place = burst(file, start, row)?;
+    let (minimum, maximum) = burst_limits(position).ok_or((10, 0))?;
+    let value = four_at(file, place + usize::from(FIELDS[position - 1].0));
+    Ok(1 + usize::from(value > maximum) - usize::from(value < minimum))
+}
+
+/// How many beams a mask enables.
+#[inline(never)]
+pub fn beams(mask: u64) -> Option<u32> {
+    (mask < 32).then(|| mask.count_ones())
+}
+
+/// The number of a compression mode, or that of none.
+#[inline(never)]
+pub fn mode(number: u64) -> u64 {
+    number.min(8)
 }
 
 /// Reads a VAX D number without the three lowest bits of its fraction.

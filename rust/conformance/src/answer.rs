@@ -2,7 +2,7 @@
 
 use crate::words::{write_bytes, write_list};
 use crate::{Case, Library};
-use crestulbino::{Kind, Refused, Row, Verdict};
+use crestulbino::{Beams, Field, Kind, Refused, Row, Verdict};
 use std::fmt::{self, Display};
 
 /// The answer to a line that is no case.
@@ -42,6 +42,7 @@ pub fn answer(library: &Library, case: &Case) -> String {
             line((library.check)(Kind::Labelled(*versions), file))
         }
         Case::CheckWaveform { file } => line((library.check)(Kind::Waveform, file)),
+        Case::CheckBursts { file, start } => line((library.check)(Kind::Bursts(*start), file)),
         Case::ReadRowLabelled {
             file,
             row,
@@ -53,6 +54,15 @@ pub fn answer(library: &Library, case: &Case) -> String {
         }
         Case::ReadRowWaveform { file, row, window } => {
             shown((library.read_row)(Kind::Waveform, file, *row, *window))
+        }
+        Case::ReadRowBursts {
+            file,
+            start,
+            row,
+            window,
+        } => {
+            let kind = Kind::Bursts(*start);
+            shown((library.read_row)(kind, file, *row, *window))
         }
         Case::JumpLabelled {
             file,
@@ -66,6 +76,12 @@ pub fn answer(library: &Library, case: &Case) -> String {
         Case::JumpWaveform { file, row, window } => {
             shown((library.jump_waveform)(file, *row, *window))
         }
+        Case::JumpBursts {
+            file,
+            start,
+            row,
+            window,
+        } => shown((library.jump_bursts)(file, *start, *row, *window)),
         Case::RowFrom { kind, file, from } => shown((library.row_from)(*kind, file, *from)),
         Case::BuildIndex {
             file,
@@ -96,14 +112,44 @@ pub fn answer(library: &Library, case: &Case) -> String {
             let (start, stop) = (Float(opening.start), Float(opening.stop));
             format!("{} {start} {stop}", opening.orbit)
         })),
-        Case::Verdict { element, value } => line((library.verdict)(*element, *value).map(
-            |verdict| match verdict {
-                Verdict::Below => "below",
-                Verdict::Inside => "inside",
-                Verdict::Above => "above",
-            },
-        )),
+        Case::Verdict { element, value } => judged((library.verdict)(*element, *value)),
+        Case::BurstField {
+            file,
+            start,
+            row,
+            position,
+        } => line(
+            (library.burst_field)(file, *start, *row, *position).map(|field| match field {
+                Field::Unsigned(number) => format!("unsigned {number}"),
+                Field::Signed(number) => format!("signed {number}"),
+                Field::Float4(bits) => format!("float4 {bits:08x}"),
+                Field::Float8(bits) => format!("float8 {bits:016x}"),
+                Field::Text(text) => format!("text {}", Bytes(text.bytes)),
+            }),
+        ),
+        Case::BurstVerdict {
+            file,
+            start,
+            row,
+            position,
+        } => judged((library.burst_verdict)(file, *start, *row, *position)),
+        Case::Beams { mask } => match (library.beams)(*mask) {
+            Beams::Inside(beams) => format!("ok inside {beams}"),
+            Beams::Above => "ok above absent".to_string(),
+        },
+        Case::Mode { number } => match (library.mode)(*number) {
+            Some(mode) => format!("ok {}", mode.number()),
+            None => "ok unnamed".to_string(),
+        },
     }
+}
+
+fn judged(verdict: Result<Verdict, Refused>) -> String {
+    line(verdict.map(|verdict| match verdict {
+        Verdict::Below => "below",
+        Verdict::Inside => "inside",
+        Verdict::Above => "above",
+    }))
 }
 
 fn refusal(refused: Refused) -> String {

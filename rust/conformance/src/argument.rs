@@ -154,11 +154,17 @@ impl Argument for Versions {
 const LABELLED_1: &str = "labelled1";
 const LABELLED_2: &str = "labelled2";
 const WAVEFORM: &str = "waveform";
+const BURSTS: &str = "bursts:";
 
-/// A kind is one word. A labelled file is made one with fewer versions.
+/// A kind is one word, that of a burst file with the first record's place behind it. A labelled
+/// file is made one with fewer versions, a burst file one with a smaller first place.
 impl Argument for Kind {
     fn read(words: &mut Words<'_>) -> Option<Self> {
-        match std::str::from_utf8(words.next()?).ok()? {
+        let word = words.next()?;
+        if let Some(start) = word.strip_prefix(BURSTS.as_bytes()) {
+            return read_number(start).map(Kind::Bursts);
+        }
+        match std::str::from_utf8(word).ok()? {
             LABELLED_1 => Some(Kind::Labelled(Versions::One)),
             LABELLED_2 => Some(Kind::Labelled(Versions::OneAndTwo)),
             WAVEFORM => Some(Kind::Waveform),
@@ -167,17 +173,21 @@ impl Argument for Kind {
     }
 
     fn write(&self, f: &mut fmt::Formatter<'_>) -> fmt::Result {
-        f.write_str(match self {
-            Kind::Labelled(Versions::One) => LABELLED_1,
-            Kind::Labelled(Versions::OneAndTwo) => LABELLED_2,
-            Kind::Waveform => WAVEFORM,
-        })
+        match self {
+            Kind::Labelled(Versions::One) => f.write_str(LABELLED_1),
+            Kind::Labelled(Versions::OneAndTwo) => f.write_str(LABELLED_2),
+            Kind::Waveform => f.write_str(WAVEFORM),
+            Kind::Bursts(start) => write!(f, "{BURSTS}{start}"),
+        }
     }
 
     fn shrink(&mut self, serves: &mut Serves<'_, Self>) -> Option<()> {
         match self {
             Kind::Labelled(_) => instead(self, Kind::Labelled(Versions::One), serves),
             Kind::Waveform => Some(()),
+            Kind::Bursts(start) => {
+                shrink::number(start, &mut |&smaller| serves(&Kind::Bursts(smaller)))
+            }
         }
     }
 }

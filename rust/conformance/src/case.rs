@@ -72,10 +72,13 @@ cases! {
     "write_label" WriteLabel { version: Version, head: Vec<u8>, length: usize, buffer: Vec<u8> }
     "check_labelled" CheckLabelled { file: Vec<u8>, versions: Versions }
     "check_waveform" CheckWaveform { file: Vec<u8> }
+    "check_bursts" CheckBursts { file: Vec<u8>, start: usize }
     "read_row_labelled" ReadRowLabelled { file: Vec<u8>, row: usize, window: Window, versions: Versions }
     "read_row_waveform" ReadRowWaveform { file: Vec<u8>, row: usize, window: Window }
+    "read_row_bursts" ReadRowBursts { file: Vec<u8>, start: usize, row: usize, window: Window }
     "jump_labelled" JumpLabelled { file: Vec<u8>, list: Vec<u32>, row: usize, window: Window, versions: Versions }
     "jump_waveform" JumpWaveform { file: Vec<u8>, row: usize, window: Window }
+    "jump_bursts" JumpBursts { file: Vec<u8>, start: usize, row: usize, window: Window }
     "row_from" RowFrom { kind: Kind, file: Vec<u8>, from: usize }
     "build_index" BuildIndex { file: Vec<u8>, list: Vec<u32>, versions: Versions }
     "check_index" CheckIndex { file: Vec<u8>, list: Vec<u32>, versions: Versions }
@@ -86,6 +89,10 @@ cases! {
     "vax_d" VaxD { bytes: Vec<u8> }
     "opening" Opening { bytes: Vec<u8> }
     "verdict" Verdict { element: u64, value: i64 }
+    "burst_field" BurstField { file: Vec<u8>, start: usize, row: usize, position: u64 }
+    "burst_verdict" BurstVerdict { file: Vec<u8>, start: usize, row: usize, position: u64 }
+    "beams" Beams { mask: u64 }
+    "mode" Mode { number: u64 }
 }
 
 #[cfg(test)]
@@ -109,6 +116,15 @@ mod tests {
             "row_from labelled1 00 5",
             "row_from labelled2 00 5",
             "row_from waveform - 0",
+            "row_from bursts:0 00 5",
+            "row_from bursts:18446744073709551615 - 18446744073709551615",
+            "check_bursts 00 1",
+            "read_row_bursts - 18446744073709551615 1 2 3",
+            "jump_bursts 00ff 1 18446744073709551615 2 3",
+            "burst_field 00 1 2 255",
+            "burst_verdict - 0 0 18446744073709551615",
+            "beams 32",
+            "mode 18446744073709551615",
             "sample 255",
             "verdict 141 -9223372036854775808",
         ] {
@@ -134,7 +150,7 @@ mod tests {
     }
 
     #[test]
-    fn kinds_are_three_words() {
+    fn kinds_are_these_words() {
         for kind in [
             "labelled",
             "labelled0",
@@ -143,7 +159,23 @@ mod tests {
             "labelled12",
             "Labelled1",
             "waveforms",
-            "bursts:0",
+            "waveform:0",
+            "labelled1:0",
+            "bursts",
+            "bursts0",
+            "bursts:",
+            "bursts:-",
+            "bursts:-1",
+            "bursts:+1",
+            "bursts:00",
+            "bursts:01",
+            "bursts:0x1",
+            "bursts:1:1",
+            "bursts:0,1",
+            "bursts:18446744073709551616",
+            "Bursts:0",
+            "burst:0",
+            ":0",
             "-",
             "",
         ] {
@@ -163,6 +195,10 @@ mod tests {
             ("check_labelled 01 1", "check_labelled - 1"),
             ("row_from waveform 0102 77", "row_from waveform - 0"),
             ("row_from labelled2 0102 77", "row_from labelled1 - 0"),
+            ("row_from bursts:12 0102 77", "row_from bursts:0 - 0"),
+            ("burst_field 0102 3 4 5", "burst_field - 0 0 0"),
+            ("jump_bursts 0102 3 4 5 6", "jump_bursts - 0 0 0 0"),
+            ("beams 33", "beams 0"),
             ("verdict 141 -9223372036854775808", "verdict 0 0"),
             ("sample 200", "sample 0"),
         ] {
@@ -189,5 +225,12 @@ mod tests {
         let still = |trial: &Case| trial.to_string().contains("labelled2");
         shrunk.shrink(&mut |trial| Some(still(trial))).unwrap();
         assert_eq!(shrunk, case("row_from labelled2 - 0"));
+        let mut shrunk = case("row_from bursts:2000 0102 5");
+        let still = |trial: &Case| match trial {
+            Case::RowFrom { kind, .. } => kind.first_place() >= 7,
+            _ => false,
+        };
+        shrunk.shrink(&mut |trial| Some(still(trial))).unwrap();
+        assert_eq!(shrunk, case("row_from bursts:7 - 0"));
     }
 }

@@ -102,15 +102,15 @@ fn cut(line: &str) -> String {
 #[cfg(test)]
 mod tests {
     use super::*;
-    use crate::library::INDEPENDENT;
-    use crestulbino::{Kind, Refusal, Refused, Row, Versions};
+    use crate::library::{Answer, INDEPENDENT};
+    use crestulbino::{Beams, Field, Kind, Refusal, Refused, Row, Versions};
 
     fn compared_with(wrong: Library) -> Option<Difference> {
         let sides = Sides {
             left: ("right", &INDEPENDENT),
             right: ("wrong", &wrong),
         };
-        sides.first_difference(3, 5_000, |_| {})
+        sides.first_difference(4, 10_000, |_| {})
     }
 
     #[test]
@@ -142,7 +142,7 @@ mod tests {
             let rows = (INDEPENDENT.check)(kind, file)?;
             Ok(match kind {
                 Kind::Labelled(_) => rows.min(3),
-                Kind::Waveform => rows,
+                Kind::Waveform | Kind::Bursts(_) => rows,
             })
         }
         let found = compared_with(Library {
@@ -199,6 +199,34 @@ mod tests {
         })
         .unwrap();
         assert_eq!(found.case.to_string(), "row_from waveform - 10");
+    }
+
+    #[test]
+    fn faults_of_bursts_are_found() {
+        fn other_order(file: &[u8], start: usize, row: usize, at: u64) -> Answer<Field<'_>> {
+            let field = (INDEPENDENT.burst_field)(file, start, row, at)?;
+            Ok(match field {
+                Field::Unsigned(number) if at == 251 => {
+                    Field::Unsigned((number as u32).swap_bytes().into())
+                }
+                other => other,
+            })
+        }
+        let found = compared_with(Library {
+            burst_field: other_order,
+            ..INDEPENDENT
+        })
+        .unwrap();
+        assert!(found.case.to_string().ends_with(" 251"), "{found}");
+        let found = compared_with(Library {
+            beams: |mask| match mask {
+                32 => Beams::Inside(1),
+                _ => (INDEPENDENT.beams)(mask),
+            },
+            ..INDEPENDENT
+        })
+        .unwrap();
+        assert_eq!(found.case.to_string(), "beams 32");
     }
 
     #[test]

@@ -4,7 +4,10 @@ mod second;
 
 pub use second::INDEPENDENT;
 
-use crestulbino::{Built, Kind, Label, Opening, Refused, Row, Verdict, Version, Versions, Window};
+use crestulbino::{
+    Beams, Built, Field, Kind, Label, Mode, Opening, Refused, Row, Verdict, Version, Versions,
+    Window,
+};
 
 /// What a call comes to.
 pub type Answer<T> = Result<T, Refused>;
@@ -21,6 +24,7 @@ pub struct Library {
     pub read_row: fn(Kind, &[u8], usize, Window) -> Answer<Row<'_>>,
     pub jump_labelled: JumpLabelled,
     pub jump_waveform: fn(&[u8], usize, Window) -> Answer<Row<'_>>,
+    pub jump_bursts: fn(&[u8], usize, usize, Window) -> Answer<Row<'_>>,
     pub row_from: fn(Kind, &[u8], usize) -> Answer<Row<'_>>,
     pub build_index: fn(Versions, &[u8], &mut [u32]) -> Answer<Built>,
     pub check_index: fn(Versions, &[u8], &[u32]) -> Answer<()>,
@@ -31,6 +35,10 @@ pub struct Library {
     pub vax_d: fn(&[u8]) -> Answer<f64>,
     pub opening: fn(&[u8]) -> Answer<Opening>,
     pub verdict: fn(u64, i64) -> Answer<Verdict>,
+    pub burst_field: fn(&[u8], usize, usize, u64) -> Answer<Field<'_>>,
+    pub burst_verdict: fn(&[u8], usize, usize, u64) -> Answer<Verdict>,
+    pub beams: fn(u64) -> Beams,
+    pub mode: fn(u64) -> Option<Mode>,
 }
 
 /// The proved library, through the C boundary and the crate over it.
@@ -41,6 +49,7 @@ pub const PROVED: Library = Library {
     read_row: crestulbino::read_row,
     jump_labelled: crestulbino::jump_labelled,
     jump_waveform: crestulbino::jump_waveform,
+    jump_bursts: crestulbino::jump_bursts,
     row_from: crestulbino::row_from,
     build_index: crestulbino::build_index,
     check_index: crestulbino::check_index,
@@ -51,4 +60,8 @@ pub const PROVED: Library = Library {
     vax_d: crestulbino::vax_d,
     opening: crestulbino::opening,
     verdict: crestulbino::verdict,
+    burst_field: crestulbino::burst_field,
+    burst_verdict: crestulbino::burst_verdict,
+    beams: crestulbino::beams,
+    mode: crestulbino::mode,
 };

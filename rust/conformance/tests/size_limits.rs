@@ -5,7 +5,7 @@
 
 use conformance::library::{INDEPENDENT, PROVED};
 use conformance::Library;
-use crestulbino::{Kind, Refusal, Refused, Row, Version, Versions, Window};
+use crestulbino::{Field, Kind, Refusal, Refused, Row, Verdict, Version, Versions, Window};
 
 const BOTH: [Library; 2] = [INDEPENDENT, PROVED];
 
@@ -195,6 +195,23 @@ fn one_byte_more_than_a_file_may_have() {
         assert_eq!(stands(jumped), refused(Refusal::TooBig));
         let jumped = (library.jump_waveform)(&file, 0, EMPTY);
         assert_eq!(stands(jumped), refused(Refusal::TooBig));
+        // Whatever the first place, the row and the field.
+        for start in [0, 64, MOST + 1, MOST + 2, usize::MAX] {
+            let kind = Kind::Bursts(start);
+            assert_eq!((library.check)(kind, &file), refused(Refusal::TooBig));
+            let row = (library.row_from)(kind, &file, start);
+            assert_eq!(stands(row), refused(Refusal::TooBig));
+            for (row, position) in [(0, 1), (usize::MAX, u64::MAX)] {
+                let read = (library.read_row)(kind, &file, row, EMPTY);
+                assert_eq!(stands(read), refused(Refusal::TooBig));
+                let jumped = (library.jump_bursts)(&file, start, row, EMPTY);
+                assert_eq!(stands(jumped), refused(Refusal::TooBig));
+                let field = (library.burst_field)(&file, start, row, position);
+                assert_eq!(field, refused(Refusal::TooBig));
+                let verdict = (library.burst_verdict)(&file, start, row, position);
+                assert_eq!(verdict, refused(Refusal::TooBig));
+            }
+        }
         let mut list = [7; 4];
         let built = (library.build_index)(versions, &file, &mut list);
         assert_eq!(built, refused(Refusal::TooBig));
@@ -245,6 +262,88 @@ fn a_ragged_waveform_file_of_the_largest_size() {
         assert_eq!(stands(jumped), refused(Refusal::Ragged));
         let row = (library.row_from)(Kind::Waveform, &file, 0);
         assert_eq!(stands(row), refused(Refusal::Ragged));
+    }
+}
+
+/// The first place for which the largest file is whole bursts: 3,376,546 of them.
+const BURSTS_START: usize = MOST % 1_272;
+
+#[test]
+fn the_largest_burst_file() {
+    let rows = 3_376_546;
+    let mut file = vec![0; MOST];
+    let last = BURSTS_START + (rows - 1) * 1_272;
+    assert_eq!(last + 1_272, MOST);
+    // Of the last record its beam mask, its target and its last field.
+    file[last + 128] = 31;
+    file[last + 672..last + 688].copy_from_slice(b"TITAN           ");
+    file[MOST - 4..].copy_from_slice(&[1, 2, 3, 4]);
+    let kind = Kind::Bursts(BURSTS_START);
+    for library in BOTH {
+        assert_eq!((library.check)(kind, &file), Ok(rows));
+        assert_eq!((library.check)(Kind::Bursts(MOST), &file), Ok(0));
+        for (row, window, expected) in [
+            (rows - 1, Window::new(0, 1_272), Ok((last, 1_272))),
+            (rows - 1, Window::new(1_271, 1), Ok((MOST - 1, 1))),
+            (rows - 1, Window::new(1_272, 0), Ok((MOST, 0))),
+            (rows - 1, Window::new(1_272, 1), refused(Refusal::NoPart)),
+            (rows, EMPTY, refused(Refusal::NoRow)),
+        ] {
+            let read = (library.read_row)(kind, &file, row, window);
+            assert_eq!(stands(read), expected);
+            let jumped = (library.jump_bursts)(&file, BURSTS_START, row, window);
+            assert_eq!(stands(jumped), expected);
+        }
+        for (from, expected) in [
+            (last, Ok((last, 1_272))),
+            (last + 1, refused(Refusal::NoRow)),
+            (MOST, refused(Refusal::NoRow)),
+            (MOST + 1, refused(Refusal::NoRow)),
+            (BURSTS_START, Ok((BURSTS_START, 1_272))),
+            (BURSTS_START + (1 << 32), refused(Refusal::NoRow)),
+        ] {
+            let row = (library.row_from)(kind, &file, from);
+            assert_eq!(stands(row), expected);
+        }
+        let of = |position| (library.burst_field)(&file, BURSTS_START, rows - 1, position);
+        assert_eq!(of(33), Ok(Field::Unsigned(31)));
+        let target = Row {
+            place: last + 672,
+            bytes: b"TITAN           ",
+        };
+        assert_eq!(of(154), Ok(Field::Text(target)));
+        assert_eq!(of(255), Ok(Field::Float4(0x0403_0201)));
+        let verdict = (library.burst_verdict)(&file, BURSTS_START, rows - 1, 33);
+        assert_eq!(verdict, Ok(Verdict::Inside));
+    }
+}
+
+/// Refusal 16 comes before 12 and behind 14.
+#[test]
+fn first_places_around_the_largest_size() {
+    let file = vec![0; MOST];
+    for library in BOTH {
+        for (start, refusal) in [
+            (0, Refusal::Ragged),
+            (BURSTS_START + 1, Refusal::Ragged),
+            (MOST - 1, Refusal::Ragged),
+            (MOST + 1, Refusal::BadStart),
+            (BURSTS_START + (1 << 32), Refusal::BadStart),
+            (usize::MAX, Refusal::BadStart),
+        ] {
+            let kind = Kind::Bursts(start);
+            assert_eq!((library.check)(kind, &file), refused(refusal));
+            let read = (library.read_row)(kind, &file, 0, EMPTY);
+            assert_eq!(stands(read), refused(refusal));
+            let jumped = (library.jump_bursts)(&file, start, 0, EMPTY);
+            assert_eq!(stands(jumped), refused(refusal));
+            let row = (library.row_from)(kind, &file, start);
+            assert_eq!(stands(row), refused(refusal));
+            let field = (library.burst_field)(&file, start, 0, 1);
+            assert_eq!(field, refused(refusal));
+            let verdict = (library.burst_verdict)(&file, start, 0, 7);
+            assert_eq!(verdict, refused(refusal));
+        }
     }
 }
 

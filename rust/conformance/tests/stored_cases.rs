@@ -56,3 +56,11 @@ fn stored_answers_of_versions() {
         include_str!("data/versions.answers"),
     );
 }
+
+#[test]
+fn stored_answers_of_bursts() {
+    same(
+        include_str!("data/bursts.cases"),
+        include_str!("data/bursts.answers"),
+    );
+}

@@ -15,7 +15,7 @@
 //! The library keeps no pointer, reads only inputs, and writes whole numbers, bytes and floats, of
 //! which every pattern is a value.
 
-/// What a call returns: 0 and 0 for an answer, or a refusal's number and place.
+/// What a call that can refuse returns: 0 and 0 for an answer, or a refusal's number and place.
 #[repr(C)]
 #[derive(Clone, Copy, Debug, PartialEq, Eq)]
 #[must_use]
@@ -30,12 +30,16 @@ unsafe extern "C" {
     fn crest_write_label(version: u8, head: *const u8, head_len: usize, length: u64, out: *mut u8, out_len: usize, written: *mut u64) -> Outcome;
     fn crest_check_labelled(file: *const u8, file_len: usize, version_2: bool, rows: *mut u64) -> Outcome;
     fn crest_check_waveform(file: *const u8, file_len: usize, rows: *mut u64) -> Outcome;
+    fn crest_check_bursts(file: *const u8, file_len: usize, start: u64, rows: *mut u64) -> Outcome;
     fn crest_read_row_labelled(file: *const u8, file_len: usize, version_2: bool, row: u64, first: u64, count: u64, place: *mut u64, shown: *mut u64) -> Outcome;
     fn crest_read_row_waveform(file: *const u8, file_len: usize, row: u64, first: u64, count: u64, place: *mut u64, shown: *mut u64) -> Outcome;
+    fn crest_read_row_bursts(file: *const u8, file_len: usize, start: u64, row: u64, first: u64, count: u64, place: *mut u64, shown: *mut u64) -> Outcome;
     fn crest_jump_labelled(file: *const u8, file_len: usize, version_2: bool, list: *const u32, list_len: usize, row: u64, first: u64, count: u64, place: *mut u64, shown: *mut u64) -> Outcome;
     fn crest_jump_waveform(file: *const u8, file_len: usize, row: u64, first: u64, count: u64, place: *mut u64, shown: *mut u64) -> Outcome;
+    fn crest_jump_bursts(file: *const u8, file_len: usize, start: u64, row: u64, first: u64, count: u64, place: *mut u64, shown: *mut u64) -> Outcome;
     fn crest_row_from_labelled(file: *const u8, file_len: usize, version_2: bool, from: u64, place: *mut u64, shown: *mut u64) -> Outcome;
     fn crest_row_from_waveform(file: *const u8, file_len: usize, from: u64, place: *mut u64, shown: *mut u64) -> Outcome;
+    fn crest_row_from_bursts(file: *const u8, file_len: usize, start: u64, from: u64, place: *mut u64, shown: *mut u64) -> Outcome;
     fn crest_build_index(file: *const u8, file_len: usize, version_2: bool, list: *mut u32, list_len: usize, entries: *mut u64, rows: *mut u64) -> Outcome;
     fn crest_check_index(file: *const u8, file_len: usize, version_2: bool, list: *const u32, list_len: usize) -> Outcome;
     fn crest_keep_index(list: *const u32, list_len: usize, out: *mut u8, out_len: usize, written: *mut u64) -> Outcome;
@@ -45,6 +49,10 @@ unsafe extern "C" {
     fn crest_vax_d(bytes: *const u8, bytes_len: usize, number: *mut f64) -> Outcome;
     fn crest_opening(bytes: *const u8, bytes_len: usize, orbit: *mut u64, start: *mut f64, stop: *mut f64) -> Outcome;
     fn crest_verdict(element: u64, value: i64, verdict: *mut u64) -> Outcome;
+    fn crest_burst_field(file: *const u8, file_len: usize, start: u64, row: u64, position: u64, r#type: *mut u64, bits: *mut u64, place: *mut u64, shown: *mut u64) -> Outcome;
+    fn crest_burst_verdict(file: *const u8, file_len: usize, start: u64, row: u64, position: u64, verdict: *mut u64) -> Outcome;
+    fn crest_beams(mask: u64, beams: *mut u64) -> u64;
+    fn crest_mode(number: u64) -> u64;
 }
 
 #[inline]
@@ -110,6 +118,12 @@ pub(crate) fn check_waveform(file: &[u8], rows: &mut u64) -> Outcome {
 }
 
 #[inline]
+pub(crate) fn check_bursts(file: &[u8], start: u64, rows: &mut u64) -> Outcome {
+    // SAFETY: `file` is a shared slice with its length; `rows` is lent alone.
+    unsafe { crest_check_bursts(file.as_ptr(), file.len(), start, rows) }
+}
+
+#[inline]
 pub(crate) fn read_row_labelled(
     file: &[u8],
     version_2: bool,
@@ -145,6 +159,31 @@ pub(crate) fn read_row_waveform(
 ) -> Outcome {
     // SAFETY: `file` is a shared slice with its length; `place` and `shown` are lent alone.
     unsafe { crest_read_row_waveform(file.as_ptr(), file.len(), row, first, count, place, shown) }
+}
+
+#[inline]
+pub(crate) fn read_row_bursts(
+    file: &[u8],
+    start: u64,
+    row: u64,
+    first: u64,
+    count: u64,
+    place: &mut u64,
+    shown: &mut u64,
+) -> Outcome {
+    // SAFETY: `file` is a shared slice with its length; `place` and `shown` are lent alone.
+    unsafe {
+        crest_read_row_bursts(
+            file.as_ptr(),
+            file.len(),
+            start,
+            row,
+            first,
+            count,
+            place,
+            shown,
+        )
+    }
 }
 
 #[inline]
@@ -190,6 +229,31 @@ pub(crate) fn jump_waveform(
 }
 
 #[inline]
+pub(crate) fn jump_bursts(
+    file: &[u8],
+    start: u64,
+    row: u64,
+    first: u64,
+    count: u64,
+    place: &mut u64,
+    shown: &mut u64,
+) -> Outcome {
+    // SAFETY: `file` is a shared slice with its length; `place` and `shown` are lent alone.
+    unsafe {
+        crest_jump_bursts(
+            file.as_ptr(),
+            file.len(),
+            start,
+            row,
+            first,
+            count,
+            place,
+            shown,
+        )
+    }
+}
+
+#[inline]
 pub(crate) fn row_from_labelled(
     file: &[u8],
     version_2: bool,
@@ -210,6 +274,18 @@ pub(crate) fn row_from_waveform(
 ) -> Outcome {
     // SAFETY: `file` is a shared slice with its length; `place` and `shown` are lent alone.
     unsafe { crest_row_from_waveform(file.as_ptr(), file.len(), from, place, shown) }
+}
+
+#[inline]
+pub(crate) fn row_from_bursts(
+    file: &[u8],
+    start: u64,
+    from: u64,
+    place: &mut u64,
+    shown: &mut u64,
+) -> Outcome {
+    // SAFETY: `file` is a shared slice with its length; `place` and `shown` are lent alone.
+    unsafe { crest_row_from_bursts(file.as_ptr(), file.len(), start, from, place, shown) }
 }
 
 #[inline]
@@ -306,6 +382,58 @@ pub(crate) fn verdict(element: u64, value: i64, verdict: &mut u64) -> Outcome {
     unsafe { crest_verdict(element, value, verdict) }
 }
 
+#[inline]
+#[allow(clippy::too_many_arguments)] // Those of the header.
+pub(crate) fn burst_field(
+    file: &[u8],
+    start: u64,
+    row: u64,
+    position: u64,
+    r#type: &mut u64,
+    bits: &mut u64,
+    place: &mut u64,
+    shown: &mut u64,
+) -> Outcome {
+    // SAFETY: `file` is a shared slice with its length; `type`, `bits`, `place` and `shown` are lent alone.
+    unsafe {
+        crest_burst_field(
+            file.as_ptr(),
+            file.len(),
+            start,
+            row,
+            position,
+            r#type,
+            bits,
+            place,
+            shown,
+        )
+    }
+}
+
+#[inline]
+pub(crate) fn burst_verdict(
+    file: &[u8],
+    start: u64,
+    row: u64,
+    position: u64,
+    verdict: &mut u64,
+) -> Outcome {
+    // SAFETY: `file` is a shared slice with its length; `verdict` is lent alone.
+    unsafe { crest_burst_verdict(file.as_ptr(), file.len(), start, row, position, verdict) }
+}
+
+#[inline]
+pub(crate) fn beams(mask: u64, beams: &mut u64) -> u64 {
+    // SAFETY: `beams` is lent alone.
+    unsafe { crest_beams(mask, beams) }
+}
+
+#[inline]
+pub(crate) fn mode(number: u64) -> u64 {
+    // SAFETY: a number goes in and a number comes back; no memory is lent.
+    unsafe { crest_mode(number) }
+}
+
 #[cfg(test)]
 mod tests {
     use super::*;
@@ -319,7 +447,7 @@ mod tests {
     #[test]
     fn an_empty_slice_may_be_a_null_pointer() {
         const ANSWERED: Outcome = refused(0);
-        let (mut one, mut two) = (7, 7);
+        let (mut one, mut two, mut three, mut four) = (7, 7, 7, 7);
         let (mut agency, mut version, mut class) = ([7; 4], 7, 7);
         let (mut description, mut spaces) = ([7; 4], 7);
         let (mut start, mut stop) = (7.0, 7.0);
@@ -371,6 +499,28 @@ mod tests {
             }
             let row = crest_row_from_waveform(null(), 0, 0, &mut one, &mut two);
             assert_eq!(row, refused(6));
+            for (start, refusal) in [(0, 6), (1, 16), (u64::MAX, 16)] {
+                for read in [crest_read_row_bursts, crest_jump_bursts] {
+                    let row = read(null(), 0, start, 0, 0, 0, &mut one, &mut two);
+                    assert_eq!(row, refused(refusal));
+                }
+                let row = crest_row_from_bursts(null(), 0, start, 0, &mut one, &mut two);
+                assert_eq!(row, refused(refusal));
+                let field = crest_burst_field(
+                    null(),
+                    0,
+                    start,
+                    0,
+                    1,
+                    &mut one,
+                    &mut two,
+                    &mut three,
+                    &mut four,
+                );
+                assert_eq!(field, refused(refusal));
+                let verdict = crest_burst_verdict(null(), 0, start, 0, 7, &mut one);
+                assert_eq!(verdict, refused(refusal));
+            }
             assert_eq!(crest_vax_f(null(), 0, &mut start), refused(1));
             assert_eq!(crest_vax_d(null(), 0, &mut start), refused(1));
             let opening = crest_opening(null(), 0, &mut one, &mut start, &mut stop);
@@ -379,7 +529,8 @@ mod tests {
             assert_eq!(kept, refused(8));
             let loaded = crest_load_kept(null(), 0, null_mut(), 0, &mut one);
             assert_eq!(loaded, refused(13));
-            assert_eq!((one, two, start, stop), (7, 7, 7.0, 7.0));
+            assert_eq!((one, two, three, four), (7, 7, 7, 7));
+            assert_eq!((start, stop), (7.0, 7.0));
             assert_eq!((agency, description), ([7; 4], [7; 4]));
             assert_eq!((version, class, spaces), (7, 7, 7));
 
@@ -396,6 +547,9 @@ mod tests {
             }
             one = 7;
             let checked = crest_check_waveform(null(), 0, &mut one);
+            assert_eq!((checked, one), (ANSWERED, 0));
+            one = 7;
+            let checked = crest_check_bursts(null(), 0, 0, &mut one);
             assert_eq!((checked, one), (ANSWERED, 0));
         }
     }

@@ -1,4 +1,4 @@
-//! Files of both kinds: checked, read from the first byte, jumped into, gone through row by row.
+//! Files of all kinds: checked, read from the first byte, jumped into, gone through row by row.
 
 use crate::ffi::{self, Outcome};
 use crate::label::Versions;
@@ -13,6 +13,27 @@ pub enum Kind {
     Labelled(Versions),
     /// Rows of 2,080 bytes: a prefix of 32, then 2,048 samples, which are the row.
     Waveform,
+    /// Short bursts: records of 1,272 bytes, which are the rows, from this place of the first one on
+    /// to the file's end. What is in front of it is not looked at.
+    Bursts(usize),
+}
+
+impl Kind {
+    /// The place from which [`row_from`] gives the first row: that of the first record in a burst
+    /// file, and 0 in any other.
+    ///
+    /// ```
+    /// use crestulbino::Kind;
+    ///
+    /// assert_eq!(Kind::Bursts(2_544).first_place(), 2_544);
+    /// assert_eq!(Kind::Waveform.first_place(), 0);
+    /// ```
+    pub const fn first_place(self) -> usize {
+        match self {
+            Kind::Labelled(_) | Kind::Waveform => 0,
+            Kind::Bursts(start) => start,
+        }
+    }
 }
 
 /// The part of a row that is wanted: `count` bytes from its byte `first` on.
@@ -38,7 +59,7 @@ impl Window {
     }
 }
 
-/// A row, or the part of it that a window shows.
+/// A row, or a part of it: what a window shows, or a text in a burst.
 #[derive(Clone, Copy, Debug, PartialEq, Eq, Hash)]
 pub struct Row<'a> {
     /// The place of its first byte in the file, for an empty one too.
@@ -62,7 +83,8 @@ impl Row<'_> {
 ///
 /// Refuses: `TooBig`. Then for a labelled file, at its first faulty label: `Deep`, `Short`,
 /// `BadLabel`, also for a version that is not allowed, `BadLength` in version 1, `Overrun`; for a
-/// waveform file: `Ragged`.
+/// waveform file: `Ragged`; for a burst file: `BadStart` for a first place beyond the file's length,
+/// `Ragged`.
 ///
 /// ```
 /// use crestulbino::{check, Kind, Refusal, Versions};
@@ -80,6 +102,12 @@ impl Row<'_> {
 /// assert_eq!(check(Kind::Waveform, &[0; 2 * 2_080])?, 2);
 /// let refused = check(Kind::Waveform, &[0; 2_079]).unwrap_err();
 /// assert_eq!(refused.refusal, Refusal::Ragged);
+///
+/// let bursts = [0; 100 + 3 * 1_272];
+/// assert_eq!(check(Kind::Bursts(100), &bursts)?, 3);
+/// assert_eq!(check(Kind::Bursts(bursts.len()), &bursts)?, 0);
+/// let refused = check(Kind::Bursts(bursts.len() + 1), &bursts).unwrap_err();
+/// assert_eq!(refused.refusal, Refusal::BadStart);
 /// # Ok::<(), crestulbino::Refused>(())
 /// ```
 #[inline]
@@ -88,13 +116,14 @@ pub fn check(kind: Kind, file: &[u8]) -> Result<usize, Refused> {
     match kind {
         Kind::Labelled(versions) => ffi::check_labelled(file, versions.version_2(), &mut rows),
         Kind::Waveform => ffi::check_waveform(file, &mut rows),
+        Kind::Bursts(start) => ffi::check_bursts(file, start as u64, &mut rows),
     }
     .result()?;
     Ok(rows as usize)
 }
 
-/// Reads a window of a row by going through the file from its first byte. Rows are numbered
-/// from 0.
+/// Reads a window of a row by going through the file from its first byte, in a burst file from
+/// its first place. Rows are numbered from 0.
 ///
 /// Refuses: as [`check`], wherever in the file the fault stands; `NoRow`; `NoPart`.
 ///
@@ -107,6 +136,10 @@ pub fn check(kind: Kind, file: &[u8]) -> Result<usize, Refused> {
 ///
 /// let mixed = b"NJPL1I00DEMO00000003abcNJPL2I00DEMO\0\0\0\0\0\0\0\x02de";
 /// assert_eq!(read_row(Kind::Labelled(Versions::OneAndTwo), mixed, 1, Window::new(0, 2))?, row);
+///
+/// let bursts = [7; 100 + 3 * 1_272];
+/// let row = read_row(Kind::Bursts(100), &bursts, 2, Window::new(4, 4))?;
+/// assert_eq!((row.place, row.bytes), (2_648, &[7; 4][..]));
 /// # Ok::<(), crestulbino::Refused>(())
 /// ```
 #[inline]
@@ -118,6 +151,9 @@ pub fn read_row(kind: Kind, file: &[u8], row: usize, window: Window) -> Result<R
             ffi::read_row_labelled(file, version_2, row, first, count, place, shown)
         }
         Kind::Waveform => ffi::read_row_waveform(file, row, first, count, place, shown),
+        Kind::Bursts(start) => {
+            ffi::read_row_bursts(file, start as u64, row, first, count, place, shown)
+        }
     })
 }
 
@@ -177,14 +213,43 @@ pub fn jump_waveform(file: &[u8], row: usize, window: Window) -> Result<Row<'_>,
     })
 }
 
+/// Reads a window of a row of a burst file at its computed place: `start`, which is that of the
+/// first record, and 1,272 for each earlier one. The answer is that of [`read_row`].
+///
+/// Refuses: `TooBig`, `BadStart`, `Ragged`, `NoRow`, `NoPart`.
+///
+/// ```
+/// use crestulbino::{jump_bursts, Window, BURST_BYTES};
+///
+/// let file = [7; 100 + 3 * BURST_BYTES];
+/// let row = jump_bursts(&file, 100, 2, Window::new(0, BURST_BYTES))?;
+/// assert_eq!((row.place, row.bytes), (2_644, &[7; BURST_BYTES][..]));
+/// # Ok::<(), crestulbino::Refused>(())
+/// ```
+#[inline]
+pub fn jump_bursts(
+    file: &[u8],
+    start: usize,
+    row: usize,
+    window: Window,
+) -> Result<Row<'_>, Refused> {
+    let (row, first, count) = (row as u64, window.first as u64, window.count as u64);
+    shown(file, |place, shown| {
+        ffi::jump_bursts(file, start as u64, row, first, count, place, shown)
+    })
+}
+
 /// Gives a whole row from a place on: in a labelled file the first row whose label is met from
-/// there, in a waveform file the row that begins there with its prefix. Begin at 0 and go on at
-/// [`Row::end`] of each row; [`rows`] does so.
+/// there, in a waveform file the row that begins there with its prefix, in a burst file the row
+/// that begins there. Begin at [`Kind::first_place`] and go on at [`Row::end`] of each row; [`rows`]
+/// does so.
 ///
 /// Refuses, labelled: `TooBig`; `NoRow` for a place beyond the file's length; what the walk from
 /// the place meets, which is `Short`, `BadLabel`, `BadLength` or `Overrun` at a label, or `NoRow`
 /// at the file's end. Waveform: `TooBig`; `Ragged`; `NoRow` for a place that is no multiple of
-/// 2,080, or at or beyond the file's end.
+/// 2,080, or at or beyond the file's end. Bursts: `TooBig`; `BadStart`; `Ragged`; `NoRow` for a
+/// place in front of the first one, not a multiple of 1,272 behind it, or at or beyond the file's
+/// end.
 ///
 /// ```
 /// use crestulbino::{row_from, Kind, Refusal, Versions};
@@ -200,6 +265,10 @@ pub fn jump_waveform(file: &[u8], row: usize, window: Window) -> Result<Row<'_>,
 /// let both = Kind::Labelled(Versions::OneAndTwo);
 /// let mixed = b"CCSD2Z000001\xff\xff\xff\xff\xff\xff\xff\xffNJPL1I00DEMO00000003abc";
 /// assert_eq!(row_from(both, mixed, 0)?, row);
+///
+/// let bursts = [7; 100 + 3 * 1_272];
+/// let row = row_from(Kind::Bursts(100), &bursts, 1_372)?;
+/// assert_eq!((row.place, row.end()), (1_372, 2_644));
 /// # Ok::<(), crestulbino::Refused>(())
 /// ```
 #[inline]
@@ -210,6 +279,7 @@ pub fn row_from(kind: Kind, file: &[u8], from: usize) -> Result<Row<'_>, Refused
             ffi::row_from_labelled(file, versions.version_2(), from, place, shown)
         }
         Kind::Waveform => ffi::row_from_waveform(file, from, place, shown),
+        Kind::Bursts(start) => ffi::row_from_bursts(file, start as u64, from, place, shown),
     })
 }
 
@@ -226,6 +296,10 @@ pub fn row_from(kind: Kind, file: &[u8], from: usize) -> Result<Row<'_>, Refused
 /// assert_eq!(rows.next().map(|row| (row.place, row.bytes)), Some((40, &b"abc"[..])));
 /// assert_eq!(rows.next().map(|row| (row.place, row.bytes)), Some((63, &b""[..])));
 /// assert_eq!(rows.next(), None);
+///
+/// let bursts = [7; 100 + 3 * 1_272];
+/// let places = crestulbino::rows(Kind::Bursts(100), &bursts)?.map(|row| row.place);
+/// assert_eq!(places.collect::<Vec<_>>(), [100, 1_372, 2_644]);
 /// # Ok::<(), crestulbino::Refused>(())
 /// ```
 #[inline]
@@ -233,7 +307,7 @@ pub fn rows(kind: Kind, file: &[u8]) -> Result<Rows<'_>, Refused> {
     Ok(Rows {
         kind,
         file,
-        from: 0,
+        from: kind.first_place(),
         left: check(kind, file)?,
     })
 }
@@ -270,7 +344,7 @@ impl FusedIterator for Rows<'_> {}
 
 /// Makes a call that answers a place and a count, and borrows that part of the file.
 #[inline]
-fn shown(
+pub(crate) fn shown(
     file: &[u8],
     call: impl FnOnce(&mut u64, &mut u64) -> Outcome,
 ) -> Result<Row<'_>, Refused> {
@@ -307,10 +381,14 @@ mod tests {
     fn going_through_a_file_gives_what_reading_gives() {
         let waveform: Vec<u8> = (0..3 * 2_080).map(|place| (place % 251) as u8).collect();
         let labelled = [(ONE, DEMO), (BOTH, DEMO), (BOTH, MIXED)];
-        for (kind, file) in labelled
-            .into_iter()
-            .chain([(Kind::Waveform, &waveform[..])])
-        {
+        let bursts = &waveform[..100 + 3 * 1_272];
+        let others = [
+            (Kind::Waveform, &waveform[..]),
+            (Kind::Bursts(100), bursts),
+            (Kind::Bursts(100 + 2 * 1_272), bursts),
+            (Kind::Bursts(bursts.len()), bursts),
+        ];
+        for (kind, file) in labelled.into_iter().chain(others) {
             let all = rows(kind, file).unwrap();
             assert_eq!(all.size_hint(), (all.len(), Some(all.len())));
             assert_eq!(all.clone().count(), check(kind, file).unwrap());
@@ -334,7 +412,7 @@ mod tests {
 
     #[test]
     fn empty_files_have_no_rows() {
-        for kind in [ONE, BOTH, Kind::Waveform] {
+        for kind in [ONE, BOTH, Kind::Waveform, Kind::Bursts(0)] {
             let mut none = rows(kind, &[]).unwrap();
             assert_eq!((none.len(), none.next(), none.next()), (0, None, None));
         }

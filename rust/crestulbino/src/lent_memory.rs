@@ -380,6 +380,45 @@ fn check() {
             ffi::check_waveform(&file, rows)
         });
     }
+    let (two, too_big) = (bursts(2), too_big());
+    for (file, start, expected) in [
+        (&two[..], FRONT, Ok(2)),
+        (&two, FRONT + 1_272, Ok(1)),
+        (&two, FRONT + 2 * 1_272, Ok(0)),
+        (&[], 0, Ok(0)),
+    ]
+    .into_iter()
+    .chain(refused_bursts(&two, &too_big).map(|(file, start, outcome)| (file, start, Err(outcome))))
+    {
+        answers_number("bursts", expected, |rows| {
+            ffi::check_bursts(file, start, rows)
+        });
+    }
+}
+
+/// Where the first record of a burst file stands.
+const FRONT: u64 = 100;
+
+/// A burst file of so many records, each byte of which tells its place.
+fn bursts(records: usize) -> Vec<u8> {
+    let bytes = 0..FRONT as usize + records * 1_272;
+    bytes.map(|place| (place % 251) as u8).collect()
+}
+
+/// A file and a first place for each refusal of the check of burst files, and for those that come
+/// before others.
+fn refused_bursts<'a>(file: &'a [u8], too_big: &'a [u8]) -> [(&'a [u8], u64, Outcome); 8] {
+    let end = file.len() as u64;
+    [
+        (file, FRONT - 1, refused(12, 0)),
+        (file, FRONT + 1, refused(12, 0)),
+        (&file[1..], FRONT, refused(12, 0)),
+        (file, end + 1, refused(16, 0)),
+        (file, u64::MAX, refused(16, 0)),
+        (&[], 1, refused(16, 0)),
+        (too_big, 0, refused(14, 0)),
+        (too_big, u64::MAX, refused(14, 0)),
+    ]
 }
 
 #[test]
@@ -434,6 +473,55 @@ fn waveform_rows() {
     ] {
         answers_two("row_from_waveform", expected, |place, shown| {
             ffi::row_from_waveform(file, from, place, shown)
+        });
+    }
+}
+
+#[test]
+fn burst_rows() {
+    let (two, too_big) = (bursts(2), too_big());
+    for (row, first, count, expected) in [
+        (0, 0, 1_272, Ok((100, 1_272))),
+        (1, 1_264, 8, Ok((2_636, 8))),
+        (1, 1_272, 0, Ok((2_644, 0))),
+        (2, 0, 0, Err(refused(6, 0))),
+        (1 << 61, 0, 0, Err(refused(6, 0))),
+        (u64::MAX, u64::MAX, 1, Err(refused(6, 0))),
+        (1, 1_265, 8, Err(refused(7, 0))),
+        (1, u64::MAX, 1, Err(refused(7, 0))),
+    ] {
+        answers_two("read_row_bursts", expected, |place, shown| {
+            ffi::read_row_bursts(&two, FRONT, row, first, count, place, shown)
+        });
+        answers_two("jump_bursts", expected, |place, shown| {
+            ffi::jump_bursts(&two, FRONT, row, first, count, place, shown)
+        });
+    }
+    for (from, expected) in [
+        (100, Ok((100, 1_272))),
+        (1_372, Ok((1_372, 1_272))),
+        (0, Err(refused(6, 0))),
+        (99, Err(refused(6, 0))),
+        (101, Err(refused(6, 0))),
+        (1_272, Err(refused(6, 0))),
+        (2_644, Err(refused(6, 0))),
+        (u64::MAX, Err(refused(6, 0))),
+    ] {
+        answers_two("row_from_bursts", expected, |place, shown| {
+            ffi::row_from_bursts(&two, FRONT, from, place, shown)
+        });
+    }
+    for (file, start, outcome) in refused_bursts(&two, &too_big) {
+        for (row, first) in [(0, 0), (u64::MAX, u64::MAX)] {
+            answers_two("read_row_bursts", Err(outcome), |place, shown| {
+                ffi::read_row_bursts(file, start, row, first, 0, place, shown)
+            });
+            answers_two("jump_bursts", Err(outcome), |place, shown| {
+                ffi::jump_bursts(file, start, row, first, 0, place, shown)
+            });
+        }
+        answers_two("row_from_bursts", Err(outcome), |place, shown| {
+            ffi::row_from_bursts(file, start, start, place, shown)
         });
     }
 }
@@ -635,5 +723,138 @@ fn verdict() {
         answers_number("verdict", expected, |verdict| {
             ffi::verdict(element, value, verdict)
         });
+    }
+}
+
+/// A call that reads a field of a burst: its type, bits, place and count.
+fn answers_field(
+    expected: Result<[u64; 4], Outcome>,
+    call: impl Fn(&mut u64, &mut u64, &mut u64, &mut u64) -> Outcome,
+) {
+    for salt in SALTS {
+        let mut lent = [0; 4].map(|_| Lent::new(1, salt));
+        let [of, bits, place, shown] = &mut lent;
+        let outcome = call(of.number(), bits.number(), place.number(), shown.number());
+        assert_eq!(outcome, expected.err().unwrap_or(ANSWERED));
+        for (at, number) in lent.iter().enumerate() {
+            number.assert_front(expected.ok().map(|parts| parts[at]).as_slice());
+        }
+    }
+}
+
+/// A file with these bytes at a place of its second record.
+fn burst_with(place: usize, bytes: &[u8]) -> Vec<u8> {
+    let mut file = bursts(2);
+    let at = FRONT as usize + 1_272 + place;
+    file[at..at + bytes.len()].copy_from_slice(bytes);
+    file
+}
+
+#[test]
+fn burst_field() {
+    for (position, place, bytes, expected) in [
+        (1, 0, &[1, 2, 3, 4][..], [0, 0x0403_0201, 0, 0]),
+        (1, 0, &[0xff; 4], [0, 0xffff_ffff, 0, 0]),
+        (251, 1_252, &[1, 2, 3, 4], [0, 0x0403_0201, 0, 0]),
+        (203, 1_060, &[1, 2, 3, 4], [1, 0x0403_0201, 0, 0]),
+        (
+            203,
+            1_060,
+            &[0xfe, 0xff, 0xff, 0xff],
+            [1, u64::MAX - 1, 0, 0],
+        ),
+        (4, 12, &[0, 0, 0x80, 0x3f], [2, 0x3f80_0000, 0, 0]),
+        (255, 1_268, &[0xff; 4], [2, 0xffff_ffff, 0, 0]),
+        (
+            147,
+            584,
+            &[1, 2, 3, 4, 5, 6, 7, 8],
+            [3, 0x0807_0605_0403_0201, 0, 0],
+        ),
+        (199, 1_040, &[0xff; 8], [3, u64::MAX, 0, 0]),
+        (149, 600, &[b'x'; 24], [4, 0, 1_972, 24]),
+        (154, 672, &[0xff; 16], [4, 0, 2_044, 16]),
+        (155, 688, &[0; 24], [4, 0, 2_060, 24]),
+    ] {
+        let file = burst_with(place, bytes);
+        answers_field(Ok(expected), |of, bits, place, shown| {
+            ffi::burst_field(&file, FRONT, 1, position, of, bits, place, shown)
+        });
+    }
+    let (two, too_big) = (bursts(2), too_big());
+    for (row, position, refusal) in [
+        (1, 0, 10),
+        (1, 256, 10),
+        (1, (1 << 32) + 1, 10),
+        (1, u64::MAX, 10),
+        (2, 1, 6),
+        (2, 0, 6),
+        (1 << 61, 1, 6),
+        (u64::MAX, u64::MAX, 6),
+    ] {
+        answers_field(Err(refused(refusal, 0)), |of, bits, place, shown| {
+            ffi::burst_field(&two, FRONT, row, position, of, bits, place, shown)
+        });
+    }
+    for (file, start, outcome) in refused_bursts(&two, &too_big) {
+        for (row, position) in [(0, 1), (0, 0), (u64::MAX, u64::MAX)] {
+            answers_field(Err(outcome), |of, bits, place, shown| {
+                ffi::burst_field(file, start, row, position, of, bits, place, shown)
+            });
+        }
+    }
+}
+
+#[test]
+fn burst_verdict() {
+    for (position, place, value, expected) in [
+        (64, 252, 1_989_u32, Ok(0)),
+        (64, 252, 1_990, Ok(1)),
+        (64, 252, 2_010, Ok(1)),
+        (64, 252, 2_011, Ok(2)),
+        (33, 128, u32::MAX, Ok(2)),
+        (1, 0, 0, Err(refused(10, 0))),
+        (4, 12, 0, Err(refused(10, 0))),
+        (154, 672, 0, Err(refused(10, 0))),
+        (203, 1_060, 0, Err(refused(10, 0))),
+        (0, 0, 0, Err(refused(10, 0))),
+        (256, 0, 0, Err(refused(10, 0))),
+        (u64::MAX, 0, 0, Err(refused(10, 0))),
+    ] {
+        let file = burst_with(place, &value.to_le_bytes());
+        answers_number("burst_verdict", expected, |verdict| {
+            ffi::burst_verdict(&file, FRONT, 1, position, verdict)
+        });
+        for row in [2, 1 << 61, u64::MAX] {
+            answers_number("burst_verdict", Err(refused(6, 0)), |verdict| {
+                ffi::burst_verdict(&file, FRONT, row, position, verdict)
+            });
+        }
+    }
+    let (two, too_big) = (bursts(2), too_big());
+    for (file, start, outcome) in refused_bursts(&two, &too_big) {
+        for (row, position) in [(0, 7), (0, 0), (u64::MAX, u64::MAX)] {
+            answers_number("burst_verdict", Err(outcome), |verdict| {
+                ffi::burst_verdict(file, start, row, position, verdict)
+            });
+        }
+    }
+}
+
+/// A mask that is above has no number, and none is written.
+#[test]
+fn beams() {
+    for salt in SALTS {
+        for mask in (0..=40).chain([1 << 32, 1 << 63, u64::MAX]) {
+            let mut beams = Lent::new(1, salt);
+            let verdict = ffi::beams(mask, beams.number());
+            if mask <= 31 {
+                assert_eq!(verdict, 1, "{mask}");
+                beams.assert_front(&[u64::from(mask.count_ones())]);
+            } else {
+                assert_eq!(verdict, 2, "{mask}");
+                beams.assert_front(&[]);
+            }
+        }
     }
 }

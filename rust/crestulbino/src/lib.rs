@@ -1,5 +1,5 @@
-//! Labelled radar files (Magellan F-BIDR, TOPEX) and waveform files (Cassini RPWS): rows, their
-//! places and their bytes.
+//! Labelled radar files (Magellan F-BIDR, TOPEX), waveform files (Cassini RPWS) and short burst
+//! files (Cassini SBDR): rows, their places and their bytes.
 //!
 //! The work is done by a library that is proved in Rattle; this crate makes its C boundary safe to
 //! call. A file is a slice of bytes of a [`Kind`] that the caller names. Every call takes any bytes
@@ -26,6 +26,22 @@
 //! A label is of one of two [`Version`]s, and a file may mix them. Every call that reads labels is
 //! told which [`Versions`] are allowed; all that is asked of one file is to be told the same.
 //!
+//! The rows of a burst file are records of [`BURST_BYTES`] from a place on that the caller gives. A
+//! record has [`BURST_FIELDS`] fields, which [`burst_field`] reads.
+//!
+//! ```
+//! use crestulbino::{beams, burst_field, jump_bursts, Beams, Field, Window, BURST_BYTES};
+//!
+//! let mut bursts = [0; 49 + 3 * BURST_BYTES];
+//! bursts[2_593 + 128] = 0b1_1010;
+//!
+//! let record = jump_bursts(&bursts, 49, 2, Window::new(0, BURST_BYTES))?;
+//! let mask = burst_field(&bursts, 49, 2, 33)?;
+//! assert_eq!((record.place, mask), (2_593, Field::Unsigned(26)));
+//! assert_eq!(beams(26), Beams::Inside(3));
+//! # Ok::<(), crestulbino::Refused>(())
+//! ```
+//!
 //! Places, row numbers and counts are `usize`, which has 64 bits wherever this crate can be built.
 //! A place is the number of bytes before it in what was lent.
 //!
@@ -45,6 +61,7 @@ compile_error!("the proved library counts in 64 bits");
 #[allow(unsafe_code)]
 mod ffi;
 
+mod bursts;
 mod file;
 mod index;
 mod label;
@@ -53,8 +70,12 @@ mod lent_memory;
 mod numbers;
 mod refusal;
 
+pub use bursts::{
+    beams, burst_field, burst_verdict, mode, Beams, Field, Mode, BURST_BYTES, BURST_FIELDS,
+};
 pub use file::{
-    check, jump_labelled, jump_waveform, read_row, row_from, rows, Kind, Row, Rows, Window,
+    check, jump_bursts, jump_labelled, jump_waveform, read_row, row_from, rows, Kind, Row, Rows,
+    Window,
 };
 pub use index::{
     build_index, check_index, keep_index, load_kept, Built, KEPT_FRONT_BYTES, ROWS_PER_ENTRY,

@@ -75,7 +75,7 @@ pub fn opening(bytes: &[u8]) -> Result<Opening, Refused> {
     Ok(Opening { orbit, start, stop })
 }
 
-/// Where a value stands with regard to the limits of its element, which are inside.
+/// Where a value stands with regard to the limits of its element or field, which are inside.
 #[derive(Clone, Copy, Debug, PartialEq, Eq, Hash)]
 pub enum Verdict {
     /// Less than the minimum.
@@ -84,6 +84,19 @@ pub enum Verdict {
     Inside,
     /// More than the maximum.
     Above,
+}
+
+impl Verdict {
+    /// The verdict with this number of the boundary.
+    #[inline]
+    pub(crate) fn of(number: u64) -> Verdict {
+        match number {
+            0 => Verdict::Below,
+            1 => Verdict::Inside,
+            2 => Verdict::Above,
+            _ => other_version(),
+        }
+    }
 }
 
 /// Compares a value with the limits of a TOPEX altimeter element, 4.4.`element` in the definitions.
@@ -102,10 +115,5 @@ pub enum Verdict {
 pub fn verdict(element: u64, value: i64) -> Result<Verdict, Refused> {
     let mut verdict = 0;
     ffi::verdict(element, value, &mut verdict).result()?;
-    Ok(match verdict {
-        0 => Verdict::Below,
-        1 => Verdict::Inside,
-        2 => Verdict::Above,
-        _ => other_version(),
-    })
+    Ok(Verdict::of(verdict))
 }

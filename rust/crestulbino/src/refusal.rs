@@ -27,11 +27,11 @@ pub enum Refusal {
     Small = 8,
     /// The VAX number has sign 1 and exponent 0.
     Reserved = 9,
-    /// The element has no limits.
+    /// There is no such field, or the element or field has no limits.
     Unknown = 10,
     /// The list is not the index of this file.
     BadIndex = 11,
-    /// The waveform file is no multiple of 2,080 bytes.
+    /// The waveform file is no multiple of 2,080 bytes, or the rest of the burst file none of 1,272.
     Ragged = 12,
     /// These bytes are no kept index.
     BadKept = 13,
@@ -39,11 +39,13 @@ pub enum Refusal {
     TooBig = 14,
     /// A version 1 label cannot hold a length of more than 99,999,999 bytes.
     TooLong = 15,
+    /// The first record's place is beyond the file.
+    BadStart = 16,
 }
 
 impl Refusal {
     /// Every refusal, in the order of the numbers.
-    pub const ALL: [Refusal; 15] = [
+    pub const ALL: [Refusal; 16] = [
         Refusal::Short,
         Refusal::BadLabel,
         Refusal::BadLength,
@@ -59,6 +61,7 @@ impl Refusal {
         Refusal::BadKept,
         Refusal::TooBig,
         Refusal::TooLong,
+        Refusal::BadStart,
     ];
 
     /// The published number.
@@ -125,9 +128,15 @@ impl Refusal {
             Refusal::NoPart => ("NOPART", "the window does not fit the row"),
             Refusal::Small => ("SMALL", "the lent output is too short"),
             Refusal::Reserved => ("RESERVED", "the VAX number has sign 1 and exponent 0"),
-            Refusal::Unknown => ("UNKNOWN", "the element has no limits"),
+            Refusal::Unknown => (
+                "UNKNOWN",
+                "there is no such field, or the element or field has no limits",
+            ),
             Refusal::BadIndex => ("BADINDEX", "the list is not the index of this file"),
-            Refusal::Ragged => ("RAGGED", "the waveform file is no multiple of 2,080 bytes"),
+            Refusal::Ragged => (
+                "RAGGED",
+                "the waveform file is no multiple of 2,080 bytes, or the rest of the burst file none of 1,272",
+            ),
             Refusal::BadKept => ("BADKEPT", "these bytes are no kept index"),
             Refusal::TooBig => (
                 "TOOBIG",
@@ -137,6 +146,7 @@ impl Refusal {
                 "TOOLONG",
                 "a version 1 label cannot hold a length of more than 99,999,999 bytes",
             ),
+            Refusal::BadStart => ("BADSTART", "the first record's place is beyond the file"),
         }
     }
 }
@@ -212,7 +222,7 @@ mod tests {
             assert_eq!(refusal.number(), before as u64 + 1);
             assert_eq!(Refusal::from_number(refusal.number()), Some(refusal));
         }
-        assert_eq!(Refusal::from_number(16), None);
+        assert_eq!(Refusal::from_number(17), None);
     }
 
     #[test]

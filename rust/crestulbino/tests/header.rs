@@ -1,6 +1,8 @@
 //! The C header beside the declarations and the words of this crate.
 
-use crestulbino::{Refusal, KEPT_FRONT_BYTES, LABEL_BYTES, ROWS_PER_ENTRY};
+use crestulbino::{
+    Mode, Refusal, BURST_BYTES, BURST_FIELDS, KEPT_FRONT_BYTES, LABEL_BYTES, ROWS_PER_ENTRY,
+};
 
 const HEADER: &str = include_str!("../../../include/crestulbino.h");
 const DECLARATIONS: &str = include_str!("../src/ffi.rs");
@@ -86,6 +88,8 @@ fn declared_functions() -> Vec<Function> {
             let (parameters, result) = rest.split_once(") -> ").expect("a result");
             let parameters = parameters.split(", ").map(|parameter| {
                 let (name, of) = parameter.split_once(": ").expect("a name and a type");
+                // A word that Rust keeps for itself is a name only with this in front.
+                let name = name.trim_start_matches("r#");
                 (name.to_string(), of.to_string())
             });
             Function {
@@ -100,7 +104,7 @@ fn declared_functions() -> Vec<Function> {
 #[test]
 fn declarations_are_those_of_the_header_in_its_order() {
     let header = header_functions();
-    assert_eq!(header.len(), 19);
+    assert_eq!(header.len(), 27);
     assert_eq!(declared_functions(), header);
 }
 
@@ -131,10 +135,67 @@ fn sizes_are_the_header_s() {
         ("LABEL_BYTES", LABEL_BYTES),
         ("ROWS_PER_ENTRY", ROWS_PER_ENTRY),
         ("KEPT_FRONT_BYTES", KEPT_FRONT_BYTES),
+        ("BURST_BYTES", BURST_BYTES),
+        ("BURST_FIELDS", BURST_FIELDS as usize),
     ] {
         assert!(
             HEADER.contains(&format!("#define CREST_{name} {number}u\n")),
             "{name}"
         );
     }
+}
+
+/// The names of an enum of the header, with their numbers.
+fn enum_of(name: &str) -> Vec<(String, u64)> {
+    let code = header_code();
+    let opening = format!("enum {name} {{");
+    let (_, rest) = code.split_once(&opening).expect("the enum");
+    let (names, _) = rest.split_once('}').expect("its end");
+    let pair = |text: &str| {
+        let (name, number) = text.split_once('=').expect("a name and a number");
+        (name.trim().to_string(), number.trim().parse().unwrap())
+    };
+    names.split(',').map(pair).collect()
+}
+
+/// `Baq8To2` as `BAQ_8_TO_2`, and `Bits8To0`, which no name in C begins with, as `8_TO_0`.
+fn c_name(mode: Mode) -> String {
+    let mut name = String::new();
+    let mut before = ' ';
+    for letter in format!("{mode:?}").chars() {
+        let begins = letter.is_uppercase() || letter.is_numeric() && !before.is_numeric();
+        if begins && before != ' ' {
+            name.push('_');
+        }
+        name.push(letter.to_ascii_uppercase());
+        before = letter;
+    }
+    name.trim_start_matches("BITS_").to_string()
+}
+
+#[test]
+fn modes_have_the_header_s_numbers_and_names() {
+    let mut names = enum_of("crest_mode_number");
+    let unnamed = ("CREST_MODE_UNNAMED".to_string(), Mode::ALL.len() as u64);
+    assert_eq!(names.pop(), Some(unnamed));
+    let expected = Mode::ALL.map(|mode| (format!("CREST_MODE_{}", c_name(mode)), mode.number()));
+    assert_eq!(names, expected);
+}
+
+/// Each with the number that the crate takes it for.
+#[test]
+fn types_and_verdicts_have_their_numbers() {
+    let of = |name, words: &[&str]| {
+        let expected: Vec<(String, u64)> = words
+            .iter()
+            .zip(0..)
+            .map(|(word, number)| (format!("CREST_{word}"), number))
+            .collect();
+        assert_eq!(enum_of(name), expected);
+    };
+    of("crest_verdict_number", &["BELOW", "INSIDE", "ABOVE"]);
+    of(
+        "crest_field_type",
+        &["UNSIGNED", "SIGNED", "FLOAT4", "FLOAT8", "TEXT"],
+    );
 }

@@ -18,6 +18,7 @@ pub enum Reason {
     BadKept = 13,
     TooBig = 14,
     TooLong = 15,
+    BadStart = 16,
 }
 
 impl Reason {

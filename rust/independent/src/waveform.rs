@@ -1,8 +1,8 @@
 //! Waveform files: rows of one size, each a prefix and then its samples.
 
-use crate::check_size;
 use crate::refusal::{Reason, Refusal};
 use crate::window::{Part, Row, Window};
+use crate::{check_size, pass_rows};
 
 /// A prefix and its samples together.
 pub const RECORD_BYTES: u64 = 2_080;
@@ -26,16 +26,7 @@ pub fn check(file: &[u8]) -> Result<u64, Refusal> {
 /// Reads a window of row `number`, passing the rows in front of it one by one.
 pub fn read_row(file: &[u8], number: u64, window: Window) -> Result<Part<'_>, Refusal> {
     check(file)?;
-    let end = file.len() as u64;
-    let mut place = 0;
-    let mut rows_before = number;
-    while place < end && rows_before > 0 {
-        place += RECORD_BYTES;
-        rows_before -= 1;
-    }
-    if place == end {
-        return Err(Reason::NoRow.at_start());
-    }
+    let place = pass_rows(0, file.len() as u64, RECORD_BYTES, number)?;
     window.show(file, samples_at(place))
 }
 

@@ -105,7 +105,20 @@ pub const LINES: &[&str] = &[
     "row_from labelled - 0 2",
     "row_from Waveform - 0",
     "row_from waveform1 - 0",
-    "row_from bursts:0 - 0",
+    "row_from bursts - 0",
+    "row_from bursts: - 0",
+    "row_from bursts:- - 0",
+    "row_from bursts:-1 - 0",
+    "row_from bursts:00 - 0",
+    "row_from bursts:01 - 0",
+    "row_from bursts:0x1 - 0",
+    "row_from bursts:0:0 - 0",
+    "row_from bursts:18446744073709551616 - 0",
+    "row_from bursts 0 - 0",
+    "row_from Bursts:0 - 0",
+    "row_from waveform:0 - 0",
+    "row_from bursts:0 -",
+    "row_from bursts:0 0 0",
     "row_from 1 - 0",
     "row_from  - 0",
     "row_from waveform 0",
@@ -141,6 +154,38 @@ pub const LINES: &[&str] = &[
     "verdict 0141 0",
     "verdict 141 0 0",
     "verdict 141 18446744073709551616",
+    "check_bursts -",
+    "check_bursts 0 0",
+    "check_bursts - -",
+    "check_bursts - -1",
+    "check_bursts - 0 0",
+    "check_bursts - 18446744073709551616",
+    "read_row_bursts - 0 0 0",
+    "read_row_bursts - 0 0 0 0 0",
+    "read_row_bursts bursts:0 - 0 0 0",
+    "jump_bursts - 0 0 0",
+    "jump_bursts - 00 0 0 0",
+    "jump_bursts - - 0 0 0 0",
+    "burst_field - 0 0",
+    "burst_field - 0 0 -1",
+    "burst_field - 0 0 sync",
+    "burst_field - 0 0 1 1",
+    "burst_verdict - 0 0",
+    "burst_verdict - 0 0 07",
+    "burst_verdict - 0 0 18446744073709551616",
+    "burst - 0 0 1",
+    "beams",
+    "beams -",
+    "beams -1",
+    "beams 031",
+    "beams 1 1",
+    "beams 18446744073709551616",
+    "mode",
+    "mode -",
+    "mode +7",
+    "mode 07",
+    "mode 1 1",
+    "mode unnamed",
 ];
 
 /// Spoils a line that is a case.
@@ -173,7 +218,13 @@ mod tests {
     #[test]
     fn spoiling_always_works() {
         let mut random = Random::new(1);
-        for case in ["sample 1", "row_from waveform - 0", "verdict 141 -5"] {
+        for case in [
+            "sample 1",
+            "row_from waveform - 0",
+            "verdict 141 -5",
+            "burst_field - 0 0 1",
+            "beams 1",
+        ] {
             assert!(Case::parse(case.as_bytes()).is_some());
             for _ in 0..40 {
                 let line = spoilt(case, &mut random);

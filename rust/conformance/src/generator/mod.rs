@@ -1,6 +1,7 @@
 //! Fresh cases from a seed, weighted towards the edges of the documents.
 
 mod bad_lines;
+mod bursts;
 mod edges;
 pub mod files;
 pub mod published;
@@ -10,6 +11,7 @@ use crate::Case;
 use crestulbino::{Kind, Version, Versions, Window};
 use files::{Classed, LabelledFile, LastObject, Versioned, RECORD};
 use independent::altimeter::TABLE;
+use independent::bursts::Field;
 use independent::waveform::{PREFIX_BYTES, SAMPLE_BYTES};
 use random::{Deck, Random};
 
@@ -17,9 +19,11 @@ const PREFIX: usize = PREFIX_BYTES as usize;
 const SAMPLES: usize = SAMPLE_BYTES as usize;
 
 /// An endless stream of lines, the same for the same seed. Cases of which each
-/// one matters are dealt from decks, so that a long stream holds all of them.
+/// one matters are dealt from decks, and so are the calls, so that a stream of
+/// ten thousand lines holds all of them.
 pub struct Generator {
     random: Random,
+    turns: Deck<Option<Call>>,
     label_harms: Deck<(Version, usize, u8)>,
     field_patterns: Deck<u8>,
     binary_lengths: Deck<(u64, Versions)>,
@@ -33,6 +37,12 @@ pub struct Generator {
     vax_numbers: Deck<VaxNumber>,
     limit_values: Deck<(u64, i64)>,
     unknown_elements: Deck<u64>,
+    burst_edges: Deck<(bursts::Call, bursts::Edge)>,
+    burst_fields: Deck<(Field, bursts::Filling)>,
+    burst_limits: Deck<(Field, u32)>,
+    burst_unknown: Deck<(bursts::Call, u64)>,
+    masks: Deck<u64>,
+    modes: Deck<u64>,
     bad_lines: Deck<&'static str>,
 }
 
@@ -64,32 +74,51 @@ struct Written {
 
 type Call = fn(&mut Generator) -> Case;
 
-/// How often each call is asked.
-const CALLS: [(u64, Call); 23] = [
-    (100, Generator::read_label),
-    (54, Generator::write_label),
-    (38, Generator::check_labelled),
-    (9, Generator::check_waveform),
-    (53, Generator::read_row_labelled),
-    (18, Generator::read_row_waveform),
-    (74, Generator::jump_labelled),
-    (18, Generator::jump_waveform),
-    (44, Generator::row_from_labelled),
-    (22, Generator::row_from_waveform),
-    (33, Generator::build_index),
-    (33, Generator::check_index),
-    (74, Generator::last_object),
-    (75, Generator::binary_object),
-    (51, Generator::classed),
-    (11, Generator::versioned),
-    (16, Generator::keep_index),
-    (26, Generator::load_kept),
-    (34, Generator::sample),
-    (18, Generator::vax_f),
-    (22, Generator::vax_d),
-    (23, Generator::opening),
-    (110, Generator::verdict),
+/// How often each call is asked in a thousand lines. A deck that one of them deals from alone has
+/// no more than ten times as many cards.
+const CALLS: [(usize, Call); 38] = [
+    (26, Generator::read_spaces_and_digits),
+    (3, Generator::read_binary_text),
+    (9, Generator::read_binary_length),
+    (37, Generator::read_harmed_label),
+    (5, Generator::read_cut_label),
+    (17, Generator::write_label),
+    (13, Generator::write_harmed_head),
+    (7, Generator::write_any_head),
+    (33, Generator::check_labelled),
+    (5, Generator::check_waveform),
+    (41, Generator::read_row_labelled),
+    (10, Generator::read_row_waveform),
+    (55, Generator::jump_labelled),
+    (10, Generator::jump_waveform),
+    (35, Generator::row_from_labelled),
+    (11, Generator::row_from_waveform),
+    (31, Generator::build_index),
+    (31, Generator::check_index),
+    (63, Generator::last_object),
+    (65, Generator::binary_object),
+    (42, Generator::classed),
+    (7, Generator::versioned),
+    (11, Generator::keep_index),
+    (18, Generator::load_kept),
+    (26, Generator::sample),
+    (13, Generator::vax_f),
+    (15, Generator::vax_d),
+    (15, Generator::opening),
+    (57, Generator::verdict_at_limit),
+    (14, Generator::verdict),
+    (12, Generator::verdict_unknown),
+    (24, Generator::burst_edge),
+    (14, |generator| bursts::row(&mut generator.random)),
+    (128, Generator::burst_field),
+    (24, Generator::burst_limit),
+    (24, Generator::burst_unknown),
+    (6, Generator::beams),
+    (3, Generator::mode),
 ];
+
+/// How many of a thousand lines are no cases.
+const BAD_LINES: usize = 40;
 
 const VERSIONS: [Version; 2] = [Version::One, Version::Two];
 
@@ -120,17 +149,14 @@ const SPOILT_CALLS: [Call; 4] = [
     Generator::opening,
 ];
 
-const BAD_LINE_PERCENT: u64 = 4;
-
 impl Iterator for Generator {
     type Item = String;
 
     fn next(&mut self) -> Option<String> {
-        if self.random.chance(BAD_LINE_PERCENT) {
-            return Some(self.bad_line());
-        }
-        let call = self.random.weighted(&CALLS);
-        Some(call(self).to_string())
+        Some(match self.turns.deal(&mut self.random) {
+            Some(call) => call(self).to_string(),
+            None => self.bad_line(),
+        })
     }
 }
 
@@ -138,6 +164,7 @@ impl Generator {
     pub fn new(seed: u64) -> Self {
         Generator {
             random: Random::new(seed),
+            turns: Deck::new(turns()),
             label_harms: Deck::new(label_harms()),
             field_patterns: Deck::new((0..=255).collect()),
             binary_lengths: Deck::new(told_each(&binary_lengths())),
@@ -151,6 +178,12 @@ impl Generator {
             vax_numbers: Deck::new(vax_numbers()),
             limit_values: Deck::new(limit_values()),
             unknown_elements: Deck::new(unknown_elements()),
+            burst_edges: Deck::new(bursts::asked_at_edges()),
+            burst_fields: Deck::new(bursts::filled_fields()),
+            burst_limits: Deck::new(bursts::limit_values()),
+            burst_unknown: Deck::new(bursts::unknown_positions()),
+            masks: Deck::new(bursts::masks()),
+            modes: Deck::new(bursts::modes()),
             bad_lines: Deck::new(bad_lines::LINES.to_vec()),
         }
     }
@@ -164,28 +197,26 @@ impl Generator {
         bad_lines::spoilt(&case, &mut self.random)
     }
 
-    fn read_label(&mut self) -> Case {
-        match self.random.between(0, 99) {
-            0..=32 => {
-                let pattern = self.field_patterns.deal(&mut self.random);
-                let bytes = self.label_of_spaces_and_digits(Version::One, pattern);
-                let versions = self.random.pick(&CHOICES);
-                Case::ReadLabel { bytes, versions }
-            }
-            33..=35 => {
-                let pattern = self.random.byte();
-                let bytes = self.label_of_spaces_and_digits(Version::Two, pattern);
-                let versions = self.random.pick(&CHOICES);
-                Case::ReadLabel { bytes, versions }
-            }
-            36..=47 => {
-                let (length, versions) = self.binary_lengths.deal(&mut self.random);
-                let mut bytes = self.head(Version::Two).to_vec();
-                bytes.extend(length.to_be_bytes());
-                Case::ReadLabel { bytes, versions }
-            }
-            _ => self.read_harmed_label(),
-        }
+    fn read_spaces_and_digits(&mut self) -> Case {
+        let pattern = self.field_patterns.deal(&mut self.random);
+        let bytes = self.label_of_spaces_and_digits(Version::One, pattern);
+        let versions = self.random.pick(&CHOICES);
+        Case::ReadLabel { bytes, versions }
+    }
+
+    /// A binary length that looks like spaces and digits.
+    fn read_binary_text(&mut self) -> Case {
+        let pattern = self.random.byte();
+        let bytes = self.label_of_spaces_and_digits(Version::Two, pattern);
+        let versions = self.random.pick(&CHOICES);
+        Case::ReadLabel { bytes, versions }
+    }
+
+    fn read_binary_length(&mut self) -> Case {
+        let (length, versions) = self.binary_lengths.deal(&mut self.random);
+        let mut bytes = self.head(Version::Two).to_vec();
+        bytes.extend(length.to_be_bytes());
+        Case::ReadLabel { bytes, versions }
     }
 
     /// A label whose length field is of spaces, where its pattern has ones, and of digits.
@@ -200,9 +231,6 @@ impl Generator {
 
     /// A label with a byte at the edges of what is allowed, at times with more behind it.
     fn read_harmed_label(&mut self) -> Case {
-        if self.random.chance(10) {
-            return self.read_cut_label();
-        }
         let (version, position, byte) = self.label_harms.deal(&mut self.random);
         let mut bytes = self.label(version);
         bytes[position] = byte;
@@ -259,27 +287,37 @@ impl Generator {
     }
 
     fn write_label(&mut self) -> Case {
-        if self.random.chance(50) {
-            let written = self.written.deal(&mut self.random);
-            return Case::WriteLabel {
-                version: written.version,
-                head: self.head(written.said).to_vec(),
-                length: written.length,
-                buffer: self.random.bytes(written.room),
-            };
+        let written = self.written.deal(&mut self.random);
+        Case::WriteLabel {
+            version: written.version,
+            head: self.head(written.said).to_vec(),
+            length: written.length,
+            buffer: self.random.bytes(written.room),
         }
+    }
+
+    fn write_harmed_head(&mut self) -> Case {
         let version = self.random.pick(&VERSIONS);
         let mut head = self.head(version).to_vec();
-        match self.random.between(0, 11) {
+        let (position, byte) = self.head_harms.deal(&mut self.random);
+        head[position] = byte;
+        self.write_head(version, head)
+    }
+
+    /// A head that is right, or of another count than twelve.
+    fn write_any_head(&mut self) -> Case {
+        let version = self.random.pick(&VERSIONS);
+        let mut head = self.head(version).to_vec();
+        match self.random.between(0, 3) {
             0 => head.truncate(11),
             1 => head.push(self.random.pick(b"0A")),
             2 => head.clear(),
-            3 => {}
-            _ => {
-                let (position, byte) = self.head_harms.deal(&mut self.random);
-                head[position] = byte;
-            }
+            _ => {}
         }
+        self.write_head(version, head)
+    }
+
+    fn write_head(&mut self, version: Version, head: Vec<u8>) -> Case {
         let any = self.random.between(0, 99_999_999);
         let length = self.random.pick(&WRITTEN_LENGTHS);
         let length = self.random.pick(&[any, 9, 10, 10_000_000, length, length]);
@@ -574,21 +612,59 @@ impl Generator {
         Case::Opening { bytes }
     }
 
+    fn verdict_at_limit(&mut self) -> Case {
+        let (element, value) = self.limit_values.deal(&mut self.random);
+        Case::Verdict { element, value }
+    }
+
     fn verdict(&mut self) -> Case {
+        let element = self.random.pick(&TABLE).element;
+        let value = self.any_value();
+        Case::Verdict { element, value }
+    }
+
+    fn verdict_unknown(&mut self) -> Case {
+        let element = self.unknown_elements.deal(&mut self.random);
+        let value = self.any_value();
+        Case::Verdict { element, value }
+    }
+
+    fn any_value(&mut self) -> i64 {
         let random = &mut self.random;
         let extreme = random.pick(&[i64::MIN, i64::MIN + 1, i64::MAX, 0, -1]);
         let any = random.draw() as i64;
         let any = any >> random.between(0, 63);
-        let (element, value) = match random.between(0, 9) {
-            0..=5 => self.limit_values.deal(random),
-            6 => (random.pick(&TABLE).element, extreme),
-            7 => (random.pick(&TABLE).element, any),
-            _ => {
-                let value = random.pick(&[extreme, any]);
-                (self.unknown_elements.deal(random), value)
-            }
-        };
-        Case::Verdict { element, value }
+        random.pick(&[extreme, any])
+    }
+
+    fn burst_edge(&mut self) -> Case {
+        let edge = self.burst_edges.deal(&mut self.random);
+        bursts::at_edge(edge, &mut self.random)
+    }
+
+    fn burst_field(&mut self) -> Case {
+        let field = self.burst_fields.deal(&mut self.random);
+        bursts::filled_field(field, &mut self.random)
+    }
+
+    fn burst_limit(&mut self) -> Case {
+        let value = self.burst_limits.deal(&mut self.random);
+        bursts::limit_value(value, &mut self.random)
+    }
+
+    fn burst_unknown(&mut self) -> Case {
+        let position = self.burst_unknown.deal(&mut self.random);
+        bursts::unknown_position(position, &mut self.random)
+    }
+
+    fn beams(&mut self) -> Case {
+        let mask = self.masks.deal(&mut self.random);
+        Case::Beams { mask }
+    }
+
+    fn mode(&mut self) -> Case {
+        let number = self.modes.deal(&mut self.random);
+        Case::Mode { number }
     }
 
     /// The type bytes of a label of this version and of any class.
@@ -782,6 +858,14 @@ impl Generator {
     }
 }
 
+/// A thousand turns: what is called, or nothing for a line that is no case.
+fn turns() -> Vec<Option<Call>> {
+    let of_call = |&(count, call): &(usize, Call)| vec![Some(call); count];
+    let mut turns: Vec<Option<Call>> = CALLS.iter().flat_map(of_call).collect();
+    turns.extend([None; BAD_LINES]);
+    turns
+}
+
 /// Each object with each choice.
 fn told_each<T: Copy>(objects: &[T]) -> Vec<(T, Versions)> {
     let told = |&object: &T| CHOICES.map(|versions| (object, versions));
@@ -925,6 +1009,7 @@ mod tests {
     use super::*;
     use crate::answer_line;
     use crate::library::INDEPENDENT;
+    use independent::bursts::{Storage, FIELDS};
     use independent::label::{self, Label};
     use std::collections::{HashMap, HashSet};
 
@@ -932,6 +1017,7 @@ mod tests {
     fn called(line: &str) -> String {
         let words: Vec<&str> = line.split(' ').collect();
         match words[..] {
+            ["row_from", told, ..] if told.starts_with("bursts:") => "row_from bursts".to_string(),
             [call @ ("row_from" | "write_label"), told, ..]
             | [call @ ("read_label" | "build_index" | "check_index"), .., told] => {
                 format!("{call} {told}")
@@ -953,11 +1039,15 @@ mod tests {
     #[test]
     fn cases_read_back_as_they_were_written() {
         let mut generator = Generator::new(3);
-        for _ in 0..1_500 {
-            let call = generator.random.weighted(&CALLS);
+        for call in [turns(), turns()].concat().into_iter().flatten() {
             let case = call(&mut generator);
             assert_eq!(Case::parse(case.to_string().as_bytes()), Some(case));
         }
+    }
+
+    #[test]
+    fn a_thousand_turns_are_dealt_before_they_come_again() {
+        assert_eq!(turns().len(), 1_000);
     }
 
     #[test]
@@ -986,6 +1076,12 @@ mod tests {
             assert!(generator.vax_numbers.is_through());
             assert!(generator.limit_values.is_through());
             assert!(generator.unknown_elements.is_through());
+            assert!(generator.burst_edges.is_through());
+            assert!(generator.burst_fields.is_through());
+            assert!(generator.burst_limits.is_through());
+            assert!(generator.burst_unknown.is_through());
+            assert!(generator.masks.is_through());
+            assert!(generator.modes.is_through());
             assert!(generator.bad_lines.is_through());
         }
     }
@@ -995,7 +1091,7 @@ mod tests {
     #[test]
     fn every_refusal_of_every_call_comes_up() {
         let mut seen: HashMap<(String, String), u32> = HashMap::new();
-        for line in Generator::new(5).take(20_000) {
+        for line in Generator::new(5).take(30_000) {
             let answer = answer_line(&INDEPENDENT, line.as_bytes());
             let call = called(&line);
             let mut words = answer.split(' ');
@@ -1020,7 +1116,7 @@ mod tests {
             ("build_index ", &["ok", "1", "2", "3", "4", "5", "8"]),
             ("check_index ", &["ok", "1", "2", "3", "4", "5", "11"]),
         ];
-        let others: [(&str, &[&str]); 13] = [
+        let others: [(&str, &[&str]); 21] = [
             ("write_label 1", &["ok", "2", "15", "8"]),
             ("write_label 2", &["ok", "2", "8"]),
             ("check_waveform", &["ok", "12"]),
@@ -1034,6 +1130,14 @@ mod tests {
             ("vax_d", &["ok", "1", "9"]),
             ("opening", &["ok", "1", "9"]),
             ("verdict", &["ok", "10"]),
+            ("check_bursts", &["ok", "16", "12"]),
+            ("read_row_bursts", &["ok", "16", "12", "6", "7"]),
+            ("jump_bursts", &["ok", "16", "12", "6", "7"]),
+            ("row_from bursts", &["ok", "16", "12", "6"]),
+            ("burst_field", &["ok", "16", "12", "6", "10"]),
+            ("burst_verdict", &["ok", "16", "12", "6", "10"]),
+            ("beams", &["ok"]),
+            ("mode", &["ok"]),
         ];
         let told = labelled
             .iter()
@@ -1087,6 +1191,44 @@ mod tests {
             place = value_end;
         }
         Some(())
+    }
+
+    #[test]
+    fn ten_thousand_cases_hold_each_field_and_each_verdict() {
+        for seed in 0..3 {
+            let mut seen = HashSet::new();
+            for line in Generator::new(seed).take(10_000) {
+                if line.starts_with("burst_") {
+                    let answer = answer_line(&INDEPENDENT, line.as_bytes());
+                    let word = |word: Option<&str>| word.unwrap_or_default().to_string();
+                    let (call, position) = (line.split(' ').next(), line.rsplit(' ').next());
+                    let told = answer.split(' ').take(2).collect::<Vec<_>>().join(" ");
+                    seen.insert((word(call), word(position), told));
+                }
+            }
+            for field in FIELDS {
+                let of = match field.storage {
+                    Storage::Uint32 => "unsigned",
+                    Storage::Int32 => "signed",
+                    Storage::Float32 => "float4",
+                    Storage::Float64 => "float8",
+                    Storage::Text => "text",
+                };
+                let verdicts: &[&str] = match field.limits {
+                    None => &["ref 10"],
+                    Some((0, _)) => &["ok inside", "ok above"],
+                    Some(_) => &["ok below", "ok inside", "ok above"],
+                };
+                let fields = [("burst_field", format!("ok {of}"))];
+                let verdicts = verdicts
+                    .iter()
+                    .map(|told| ("burst_verdict", told.to_string()));
+                for (call, told) in fields.into_iter().chain(verdicts) {
+                    let key = (call.to_string(), field.position.to_string(), told);
+                    assert!(seen.contains(&key), "{key:?}");
+                }
+            }
+        }
     }
 
     /// Of a file with a label that is not allowed, the labels up to it are looked at, and it.

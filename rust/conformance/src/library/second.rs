@@ -2,10 +2,13 @@
 
 use super::Library;
 use crestulbino::{
-    Built, Kind, Label, Opening, Refusal, Refused, Row, Verdict, Version, Versions, Window,
+    Beams, Built, Field, Kind, Label, Mode, Opening, Refusal, Refused, Row, Verdict, Version,
+    Versions, Window,
 };
 use independent::refusal::{self, Reason};
-use independent::{altimeter, kept, label, labelled, orbit, row_index, vax, waveform, window};
+use independent::{
+    altimeter, bursts, kept, label, labelled, orbit, row_index, vax, waveform, window,
+};
 
 /// The second implementation, written from the documents alone.
 pub const INDEPENDENT: Library = Library {
@@ -34,6 +37,7 @@ pub const INDEPENDENT: Library = Library {
         count(match kind {
             Kind::Labelled(versions) => labelled::check(taken(versions), file),
             Kind::Waveform => waveform::check(file),
+            Kind::Bursts(start) => bursts::check(file, start as u64),
         })
     },
     read_row: |kind, file, row, window| {
@@ -41,6 +45,7 @@ pub const INDEPENDENT: Library = Library {
         shown(match kind {
             Kind::Labelled(versions) => labelled::read_row(taken(versions), file, row, window),
             Kind::Waveform => waveform::read_row(file, row, window),
+            Kind::Bursts(start) => bursts::read_row(file, start as u64, row, window),
         })
     },
     jump_labelled: |versions, file, list, row, window| {
@@ -48,10 +53,15 @@ pub const INDEPENDENT: Library = Library {
         shown(row_index::jump(taken(versions), file, list, row, window))
     },
     jump_waveform: |file, row, window| shown(waveform::jump(file, row as u64, part_of_row(window))),
+    jump_bursts: |file, start, row, window| {
+        let (start, row) = (start as u64, row as u64);
+        shown(bursts::jump(file, start, row, part_of_row(window)))
+    },
     row_from: |kind, file, from| {
         shown(match kind {
             Kind::Labelled(versions) => labelled::row_from(taken(versions), file, from as u64),
             Kind::Waveform => waveform::row_from(file, from as u64),
+            Kind::Bursts(start) => bursts::row_from(file, start as u64, from as u64),
         })
     },
     build_index: |versions, file, list| {
@@ -77,14 +87,44 @@ pub const INDEPENDENT: Library = Library {
             stop: opening.stop,
         })
     },
-    verdict: |element, value| {
-        Ok(match altimeter::verdict(element, value).map_err(refused)? {
-            altimeter::Verdict::Below => Verdict::Below,
-            altimeter::Verdict::Inside => Verdict::Inside,
-            altimeter::Verdict::Above => Verdict::Above,
+    verdict: |element, value| judged(altimeter::verdict(element, value)),
+    burst_field: |file, start, row, position| {
+        let value = bursts::value(file, start as u64, row as u64, position);
+        Ok(match value.map_err(refused)? {
+            bursts::Value::Unsigned(number) => Field::Unsigned(number.into()),
+            bursts::Value::Signed(number) => Field::Signed(number.into()),
+            bursts::Value::Float4(bits) => Field::Float4(bits),
+            bursts::Value::Float8(bits) => Field::Float8(bits),
+            bursts::Value::Text(part) => Field::Text(row_of(part)),
         })
     },
+    burst_verdict: |file, start, row, position| {
+        judged(bursts::verdict(file, start as u64, row as u64, position))
+    },
+    beams: |mask| bursts::beams(mask).map_or(Beams::Above, Beams::Inside),
+    mode: |number| bursts::mode(number).map(mode_named),
 };
+
+fn judged(verdict: Result<altimeter::Verdict, refusal::Refusal>) -> Result<Verdict, Refused> {
+    Ok(match verdict.map_err(refused)? {
+        altimeter::Verdict::Below => Verdict::Below,
+        altimeter::Verdict::Inside => Verdict::Inside,
+        altimeter::Verdict::Above => Verdict::Above,
+    })
+}
+
+fn mode_named(mode: bursts::Mode) -> Mode {
+    match mode {
+        bursts::Mode::EightToTwoAdaptive => Mode::Baq8To2,
+        bursts::Mode::EightToOneAdaptive => Mode::Baq8To1,
+        bursts::Mode::EightToZero => Mode::Bits8To0,
+        bursts::Mode::EightToTwoHighest => Mode::Bits8To2Msb,
+        bursts::Mode::EightToFourHighest => Mode::Bits8To4Msb,
+        bursts::Mode::EightStraight => Mode::Bits8Straight,
+        bursts::Mode::EightToFourAdaptiveLow => Mode::Baq8To4Low,
+        bursts::Mode::EightToFourAdaptiveHigh => Mode::Baq8To4High,
+    }
+}
 
 fn taken(versions: Versions) -> label::Versions {
     match versions {
@@ -102,11 +142,14 @@ fn part_of_row(window: Window) -> window::Window {
 }
 
 fn shown(answer: Result<window::Part<'_>, refusal::Refusal>) -> Result<Row<'_>, Refused> {
-    let part = answer.map_err(refused)?;
-    Ok(Row {
+    answer.map(row_of).map_err(refused)
+}
+
+fn row_of(part: window::Part<'_>) -> Row<'_> {
+    Row {
         place: part.place as usize,
         bytes: part.bytes,
-    })
+    }
 }
 
 fn refused(refusal: refusal::Refusal) -> Refused {
@@ -133,6 +176,7 @@ fn named(reason: Reason) -> Refusal {
         Reason::BadKept => Refusal::BadKept,
         Reason::TooBig => Refusal::TooBig,
         Reason::TooLong => Refusal::TooLong,
+        Reason::BadStart => Refusal::BadStart,
     }
 }
 
@@ -158,6 +202,7 @@ mod tests {
             Reason::BadKept,
             Reason::TooBig,
             Reason::TooLong,
+            Reason::BadStart,
         ];
         for reason in reasons {
             assert_eq!(named(reason).number(), u64::from(reason.number()));
