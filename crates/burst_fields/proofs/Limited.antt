@@ -3,20 +3,21 @@
 -- integers have no line in the table of limits.
 use Prim.Native.Nat.{ℕ, zero, suc}
 use mathlib.Core.Path.{_≡_, refl, _∙_, sym, ap}
-use mathlib.Core.List.{List, [], _∷_, map}
+use mathlib.Core.List.{List, map}
 use lib.IntN.{pos}
 use Rattle.answer.specs.Outcome.{Outcome, answer, refuse, andThen}
 use Rattle.answer.specs.Window.{bytesAt}
 use Rattle.answer.specs.declared.Part.{Part}
-use Rattle.answer.proofs.Outcomes.{answer-injective, answer-is-no-refusal, andThen-assoc, andThen-agrees-where, after-answer}
+use Rattle.answer.proofs.Outcomes.{answer-is-no-refusal, andThen-assoc, andThen-agrees-where, after-answer}
 use Rattle.little.specs.LittleEndian.{leNumber}
 use Rattle.fixed_rows.specs.Read.{findRow}
 use Rattle.bursts.specs.Rows.{bursts}
-use Rattle.burst_layout.specs.Layout.{layout, lineIn, fieldAt}
+use Rattle.burst_layout.specs.Layout.{layout, fieldAt}
 use Rattle.burst_layout.specs.declared.Field.{Field}
 use Rattle.burst_layout.specs.declared.Storage.{Storage}
 use Rattle.burst_layout.specs.declared.Storage.the-variants as stored
 use Rattle.burst_layout.proofs.EndToEnd.{field-has-its-position}
+use Rattle.burst_layout.proofs.Lines.{of-each}
 use Rattle.limits.specs.BurstLimits.{burstTable}
 use Rattle.limits.specs.declared.Limit.{Limit}
 use Rattle.verdicts.specs.Verdict.{Side, side, limitsOf}
@@ -31,20 +32,14 @@ limitsUnless stored.Float8 n = limitsOf burstTable n
 limitsUnless stored.Text n = limitsOf burstTable n
 
 only-unsigned-have-limits : map (λ (g : Field). limitsUnless (g .stored) (g .position)) layout ≡ map (λ (g : Field). refuse 10 0) layout
-unfolding layout burstTable
+unfolding burstTable
 only-unsigned-have-limits = refl
-
--- what is the same of every line is the same of one
-of-one : {A : Type 0} (p q : Field → A) (fs : List Field) → map p fs ≡ map q fs → (i : ℕ) (g : Field) → lineIn fs i ≡ answer g → p g ≡ q g
-of-one p q [] e i g h = absurd (answer-is-no-refusal (sym h))
-of-one p q (f ∷ fs) e zero g h = ap p (sym (answer-injective h)) ∙ cc (e) ∙ ap q (answer-injective h)
-of-one p q (f ∷ fs) e (suc i) g h = of-one p q fs (cc) i g h
 
 no-limits-unless : (n : ℕ) (g : Field) → fieldAt n ≡ answer g → limitsUnless (g .stored) n ≡ refuse 10 0
 no-limits-unless zero g is = absurd (answer-is-no-refusal (sym is))
 no-limits-unless (suc i) g is =
     ap (limitsUnless (g .stored)) (sym (field-has-its-position (suc i) g is))
-    ∙ of-one (λ (h : Field). limitsUnless (h .stored) (h .position)) (λ (h : Field). refuse 10 0) layout only-unsigned-have-limits i g is
+    ∙ of-each (λ (h : Field). limitsUnless (h .stored) (h .position)) (λ (h : Field). refuse 10 0) layout only-unsigned-have-limits i g is
 
 -- the verdict on the unsigned number in the bytes of a part, by the limits of field n
 abbrev pub judgedAt : ℕ → List ℕ → Part → Outcome Side

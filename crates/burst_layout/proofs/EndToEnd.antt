@@ -47,7 +47,6 @@ as-tested n at (f ∷ fs) e =
     (eqb-true (f .position) n (u .0), eqb-true (f .place) at (v .0), fits-as-tested (f .stored) (f .size) (v .1), as-tested (n + 1) (at + f .size) fs (t .1))
 
 pub fields-stand-end-to-end : EndToEnd 1 0 layout
-unfolding layout
 fields-stand-end-to-end = as-tested 1 0 layout refl
 
 -- fields that begin at `at` begin in the row or at its end

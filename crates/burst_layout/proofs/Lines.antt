@@ -1,66 +1,55 @@
--- The list of fields, read by an index: what stands there, what its digits say, and that nothing stands past its end.
-use Prim.Native.Nat.{ℕ, zero, suc, _+_, _-_, _/_, _%_, _≤_, _<_}
+-- The list of fields, read by an index: what stands there, that nothing stands past its end, and that the words say each field.
+use Prim.Native.Nat.{ℕ, zero, suc, _-_, _/_, _%_, _≤_, _<_}
 use native.Mathlib.Omega.{arith}
-use mathlib.Core.Path.{_≡_, refl, ap, _∙_}
+use mathlib.Core.Path.{_≡_, refl, sym, ap, _∙_}
 use mathlib.Core.List.{List, [], _∷_, map}
-use lib.ListN.{length, getD}
+use lib.ListN.{length}
 use Rattle.answer.specs.Outcome.{answer, refuse}
-use Rattle.burst_layout.specs.declared.Storage.the-variants.{Unsigned}
+use Rattle.answer.proofs.Outcomes.{answer-injective, answer-is-no-refusal}
 use Rattle.burst_layout.specs.declared.Field.{Field}
 use Rattle.burst_layout.specs.Layout.{field, layout, lineIn, fieldAt}
-use Rattle.burst_layout.specs.Private.{typeOf, packed, packedAt}
+use Rattle.burst_layout.specs.Private.{typeOf, sizeOf, digitsAt}
+use Rattle.burst_layout.proofs.EndToEnd.{field-has-its-position}
 
 layout-has-255-lines : length layout ≡ 255
-unfolding layout
 layout-has-255-lines = refl
 
-a-line : (fs : List Field) (other : Field) (i : ℕ) → i < length fs → lineIn fs i ≡ answer (getD fs i other)
-a-line [] other i l = absurd (omega arith)
-a-line (f ∷ fs) other zero l = refl
-a-line (f ∷ fs) other (suc i) l = a-line fs other i (omega arith)
+a-line : (fs : List Field) (i : ℕ) → i < length fs → (f : Field) × (lineIn fs i ≡ answer f)
+a-line [] i l = absurd (omega arith)
+a-line (f ∷ fs) zero l = (f, refl)
+a-line (f ∷ fs) (suc i) l = a-line fs i (omega arith)
 
 no-line : (fs : List Field) (i : ℕ) → length fs ≤ i → lineIn fs i ≡ refuse 10 0
 no-line [] i l = refl
 no-line (f ∷ fs) zero l = absurd (omega arith)
 no-line (f ∷ fs) (suc i) l = no-line fs i (omega arith)
 
--- what is said of two lists line by line, the same of both, is the same at each index
-same-at : {A B C : Type 0} (g : A → C) (h : B → C) (xs : List A) (ys : List B) (x : A) (y : B) → map g xs ≡ map h ys
-    → (i : ℕ) → i < length xs → g (getD xs i x) ≡ h (getD ys i y)
-same-at g h [] ys x y e i l = absurd (omega arith)
-same-at g h (a ∷ xs) [] x y e i l = cc
-same-at g h (a ∷ xs) (b ∷ ys) x y e zero l = cc
-same-at g h (a ∷ xs) (b ∷ ys) x y e (suc i) l = same-at g h xs ys x y (cc) i (omega arith)
+-- what is the same of every line is the same of each
+pub of-each : {A : Type 0} (p q : Field → A) (fs : List Field) → map p fs ≡ map q fs → (i : ℕ) (f : Field) → lineIn fs i ≡ answer f → p f ≡ q f
+of-each p q [] e i f h = absurd (answer-is-no-refusal (sym h))
+of-each p q (g ∷ fs) e zero f h = ap p (sym (answer-injective h)) ∙ cc (e) ∙ ap q (answer-injective h)
+of-each p q (g ∷ fs) e (suc i) f h = of-each p q fs (cc) i f h
 
--- the start byte that a line's digits say, counted from 1
-abbrev pub startOf : ℕ → ℕ
-startOf n = n / 1_000 % 10_000
+-- the field that a position and its digits say
+abbrev pub unpacked : ℕ → ℕ → Field
+unpacked n digits = field n (digits / 16) (sizeOf (digits % 16)) (typeOf (digits % 16))
 
--- the field that a line's digits say
-abbrev pub unpacked : ℕ → Field
-unpacked n = field (n / 10_000_000) (startOf n - 1) (n / 10 % 100) (typeOf (n % 10))
+-- the words say every field: computed over the whole list
+words-say-the-fields : map (λ (f : Field). unpacked (f .position) (digitsAt (f .position))) layout ≡ map (λ (f : Field). f) layout
+words-say-the-fields = refl
 
--- what `getD` gives where a list has no line
-abbrev none : Field
-none = field 0 0 0 Unsigned
-
--- the field that stands at i, counted from 0
-abbrev pub lineAt : ℕ → Field
-lineAt i = getD layout i none
-
-pub digits-say-the-field : (i : ℕ) → i < 255 → unpacked (packedAt i) ≡ lineAt i
-unfolding layout packedAt
-digits-say-the-field i l = same-at unpacked (λ f. f) (map packed layout) layout 0 none refl i l
-
-pub starts-count-from-1 : (i : ℕ) → i < 255 → startOf (packedAt i) ≡ lineAt i .place + 1
-unfolding layout packedAt
-starts-count-from-1 i l = same-at startOf (λ f. f .place + 1) (map packed layout) layout 0 none refl i l
+say-the-field : (n : ℕ) (f : Field) → fieldAt n ≡ answer f → unpacked n (digitsAt n) ≡ f
+say-the-field zero f h = absurd (answer-is-no-refusal (sym h))
+say-the-field (suc i) f h =
+    ap (λ k. unpacked k (digitsAt k)) (sym (field-has-its-position (suc i) f h))
+    ∙ of-each (λ (g : Field). unpacked (g .position) (digitsAt (g .position))) (λ (g : Field). g) layout words-say-the-fields i f h
 
 -- the field at a position of the list
-pub stands-at : (n : ℕ) → 1 ≤ n → n ≤ 255 → fieldAt n ≡ answer (lineAt (n - 1))
-stands-at zero l h = absurd (omega arith)
-stands-at (suc i) l h =
-    a-line layout none i (omega (arith, layout-has-255-lines)) ∙ ap (λ k. answer (lineAt k)) (omega arith)
+pub is-said : (n : ℕ) → 1 ≤ n → n ≤ 255 → fieldAt n ≡ answer (unpacked n (digitsAt n))
+is-said zero l h = absurd (omega arith)
+is-said (suc i) l h =
+    let (f, is) = a-line layout i (omega (arith, layout-has-255-lines)) in
+    is ∙ ap answer (sym (say-the-field (suc i) f is))
 
 -- a position that the list does not have
 pub is-refused : (n : ℕ) → 255 < n → fieldAt n ≡ refuse 10 0

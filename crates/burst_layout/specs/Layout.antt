@@ -16,7 +16,7 @@ use Rattle.burst_layout.specs.declared.Found.the-variants.{Is, Refused}
 abbrev pub field : ℕ → ℕ → ℕ → Storage → Field
 field n at bytes type = record { position = n; place = at; size = bytes; stored = type }
 
-unfoldable pub layout : List Field
+abbrev pub layout : List Field
 layout =
     field 1 0 4 Unsigned ∷  -- sync
     field 2 4 4 Unsigned ∷  -- spacecraft_clock

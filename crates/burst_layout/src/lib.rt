@@ -4,9 +4,8 @@
 // counted from 1". It reads no file: what a field's bytes say is left to the crates above.
 use answer::Refusal;
 ghost use mathlib.Core.Path.{_≡_};
-ghost use Prim.Native.Nat.{_<_};
 ghost use Rattle.burst_layout.specs.Layout.{found, fieldAt};
-ghost use Rattle.burst_layout.specs.Private.{typeOf, packedAt};
+ghost use Rattle.burst_layout.specs.Private.{typeOf, sizeOf, Others, wordAt, digitsAt};
 
 // A field's storage type in section 8.2: uint32, int32, float32, float64 and ASCII string.
 pub enum Storage {
@@ -35,292 +34,96 @@ pub enum Found {
 // How many fields section 8.1 lists.
 const FIELDS: usize = 255;
 
-// How many lines a block of the table has; the last one has one less.
-const BLOCK: usize = 64;
-
-// Section 8.1 in its order, a field a line. The digits are those of its position, its start byte
-// (counted from 1, as there), its length and its type: 0 unsigned, 1 signed, 2 a float of 4 bytes,
-// 3 a float of 8 bytes, 4 text. The lines stand in blocks of 64, since reading an array stores the whole
-// of it.
-const LINES_1: [u32; 64] = [
-    1_0001_04_0, // sync
-    2_0005_04_0, // spacecraft_clock
-    3_0009_04_0, // burst_id
-    4_0013_04_2, // cds_pickup_rate
-    5_0017_04_2, // burst_start_time
-    6_0021_04_2, // header_tfi
-    7_0025_04_0, // header_tnc
-    8_0029_04_0, // header_typ
-    9_0033_04_0, // header_tca
-    10_0037_04_0, // header_tcb
-    11_0041_04_0, // header_tcc
-    12_0045_04_0, // pwri
-    13_0049_04_0, // vicc
-    14_0053_04_0, // vimc
-    15_0057_04_0, // tail_len
-    16_0061_04_0, // tail_id
-    17_0065_04_0, // sab_counter
-    18_0069_04_0, // sab_len
-    19_0073_04_0, // fswm
-    20_0077_04_0, // fswc
-    21_0081_04_0, // ctbc
-    22_0085_04_0, // rx_window_pri
-    23_0089_04_0, // ctps
-    24_0093_04_0, // ctbe
-    25_0097_04_0, // ctps_ctbe
-    26_0101_04_0, // header_end
-    27_0105_04_0, // slow_tfi
-    28_0109_04_0, // data_take_number
-    29_0113_04_0, // slow_typ
-    30_0117_04_0, // calibration_source
-    31_0121_04_0, // radar_mode
-    32_0125_04_0, // sin
-    33_0129_04_0, // bem
-    34_0133_04_0, // baq_mode
-    35_0137_04_2, // tro
-    36_0141_04_2, // receiver_bandwidth
-    37_0145_04_2, // adc_rate
-    38_0149_04_2, // at1_tot
-    39_0153_04_2, // at3_tot
-    40_0157_04_2, // at4_tot
-    41_0161_04_0, // at1_each
-    42_0165_04_0, // at3_each
-    43_0169_04_0, // at4_each
-    44_0173_04_2, // antenna_int_period
-    45_0177_04_2, // chirp_time_step
-    46_0181_04_0, // num_rad_meas
-    47_0185_04_0, // num_chirp_steps
-    48_0189_04_2, // chirp_length
-    49_0193_04_2, // chirp_freq_step
-    50_0197_04_2, // fast_tfi
-    51_0201_04_0, // fin
-    52_0205_04_0, // fast_type
-    53_0209_04_0, // num_pulses
-    54_0213_04_0, // bii
-    55_0217_04_2, // burst_period
-    56_0221_04_2, // pri
-    57_0225_04_2, // rx_window_delay
-    58_0229_04_2, // chirp_start_freq
-    59_0233_04_0, // iebtth
-    60_0237_04_0, // iebtll
-    61_0241_04_0, // bgcalls
-    62_0245_04_0, // delvmn
-    63_0249_04_0, // delvda
-    64_0253_04_0, // delvyr
-];
-
-const LINES_2: [u32; 64] = [
-    65_0257_04_0, // raw_res_load_meas
-    66_0261_04_0, // raw_antenna_meas
-    67_0265_04_0, // raw_noise_diode_meas
-    68_0269_04_0, // eout
-    69_0273_04_0, // subr
-    70_0277_04_0, // space_craft_time
-    71_0281_04_2, // noise_diode_int_period
-    72_0285_04_2, // res_load_int_period
-    73_0289_04_2, // fwdtmp
-    74_0293_04_2, // be1tmp
-    75_0297_04_2, // be2tmp
-    76_0301_04_2, // be3tmp
-    77_0305_04_2, // be4tmp
-    78_0309_04_2, // be5tmp
-    79_0313_04_2, // diptmp
-    80_0317_04_2, // rlotmp
-    81_0321_04_2, // tadcal1
-    82_0325_04_2, // nsdtmp
-    83_0329_04_2, // lnatmp
-    84_0333_04_2, // evdtmp
-    85_0337_04_2, // mratmp
-    86_0341_04_2, // mruttm
-    87_0345_04_2, // dcgttm
-    88_0349_04_2, // cucttm
-    89_0353_04_2, // twttmp
-    90_0357_04_2, // epctmp
-    91_0361_04_2, // tw1ttm
-    92_0365_04_2, // ep1ttm
-    93_0369_04_2, // p_stmp
-    94_0373_04_2, // p_sttm
-    95_0377_04_2, // fguttm
-    96_0381_04_2, // tadcal4
-    97_0385_04_2, // esstmp
-    98_0389_04_2, // wgb1t1
-    99_0393_04_2, // wgb3t1
-    100_0397_04_2, // wgb3t2
-    101_0401_04_2, // wgb3t3
-    102_0405_04_2, // wgb5t1
-    103_0409_04_2, // pcutmp
-    104_0413_04_2, // adctmp
-    105_0417_04_2, // tadcal2
-    106_0421_04_2, // ecltmp
-    107_0425_04_2, // cputmp
-    108_0429_04_2, // memtmp
-    109_0433_04_2, // sadctmp
-    110_0437_04_2, // tadcal3
-    111_0441_04_2, // frwdpw
-    112_0445_04_2, // dcgmon
-    113_0449_04_2, // lpltlm
-    114_0453_04_2, // nsdcur
-    115_0457_04_2, // hpapsm
-    116_0461_04_2, // catcur
-    117_0465_04_2, // p_smon
-    118_0469_04_2, // svlsta
-    119_0473_04_2, // usotmp
-    120_0477_04_2, // cpbnkv
-    121_0481_04_2, // essvlt
-    122_0485_04_2, // tadcal5
-    123_0489_04_2, // pcu5v_pos
-    124_0493_04_2, // pcu5i_pos
-    125_0497_04_2, // pcu5v_neg
-    126_0501_04_2, // pcu5i_neg
-    127_0505_04_2, // pcu15v_pos
-    128_0509_04_2, // pcu15i_pos
-];
-
-const LINES_3: [u32; 64] = [
-    129_0513_04_2, // pcu15v_neg
-    130_0517_04_2, // pcu15i_neg
-    131_0521_04_2, // pcu12v_neg
-    132_0525_04_2, // pcu12i_neg
-    133_0529_04_2, // pcucur
-    134_0533_04_2, // pllmon
-    135_0537_04_2, // ctu5i
-    136_0541_04_2, // tadcal6
-    137_0545_04_2, // pcu9v_pos
-    138_0549_04_2, // pcu9i_pos
-    139_0553_04_2, // pcu9v_neg
-    140_0557_04_2, // pcu9i_neg
-    141_0561_04_2, // tadcal7
-    142_0565_04_2, // shpttm
-    143_0569_04_0, // num_bursts_in_flight
-    144_0573_04_0, // raw_active_mode_length
-    145_0577_04_2, // raw_active_mode_rms
-    146_0581_04_0, // engineer_qual_flag
-    147_0585_08_3, // t_sc_clock
-    148_0593_08_3, // t_ephem_time
-    149_0601_24_4, // t_utc_ymd
-    150_0625_24_4, // t_utc_doy
-    151_0649_08_3, // transmit_time_offset
-    152_0657_08_3, // time_from_closest_approach
-    153_0665_08_3, // time_from_epoch
-    154_0673_16_4, // target_name
-    155_0689_24_4, // tbf_frame_name
-    156_0713_08_3, // pole_right_ascension
-    157_0721_08_3, // pole_declination
-    158_0729_08_3, // target_rotation_rate
-    159_0737_08_3, // target_rotation_angle
-    160_0745_04_2, // scwg_tmp
-    161_0749_04_2, // feed_tmp
-    162_0753_04_2, // hga_tmp
-    163_0757_04_0, // beam_number
-    164_0761_08_3, // sc_pos_j2000_x
-    165_0769_08_3, // sc_pos_j2000_y
-    166_0777_08_3, // sc_pos_j2000_z
-    167_0785_08_3, // sc_vel_j2000_x
-    168_0793_08_3, // sc_vel_j2000_y
-    169_0801_08_3, // sc_vel_j2000_z
-    170_0809_08_3, // sc_pos_target_x
-    171_0817_08_3, // sc_pos_target_y
-    172_0825_08_3, // sc_pos_target_z
-    173_0833_08_3, // sc_vel_target_x
-    174_0841_08_3, // sc_vel_target_y
-    175_0849_08_3, // sc_vel_target_z
-    176_0857_08_3, // sc_x_axis_j2000_x
-    177_0865_08_3, // sc_x_axis_j2000_y
-    178_0873_08_3, // sc_x_axis_j2000_z
-    179_0881_08_3, // sc_y_axis_j2000_x
-    180_0889_08_3, // sc_y_axis_j2000_y
-    181_0897_08_3, // sc_y_axis_j2000_z
-    182_0905_08_3, // sc_z_axis_j2000_x
-    183_0913_08_3, // sc_z_axis_j2000_y
-    184_0921_08_3, // sc_z_axis_j2000_z
-    185_0929_08_3, // sc_x_axis_target_x
-    186_0937_08_3, // sc_x_axis_target_y
-    187_0945_08_3, // sc_x_axis_target_z
-    188_0953_08_3, // sc_y_axis_target_x
-    189_0961_08_3, // sc_y_axis_target_y
-    190_0969_08_3, // sc_y_axis_target_z
-    191_0977_08_3, // sc_z_axis_target_x
-    192_0985_08_3, // sc_z_axis_target_y
-];
-
-const LINES_4: [u32; 63] = [
-    193_0993_08_3, // sc_z_axis_target_z
-    194_1001_08_3, // rot_vel_j2000_x
-    195_1009_08_3, // rot_vel_j2000_y
-    196_1017_08_3, // rot_vel_j2000_z
-    197_1025_08_3, // rot_vel_target_x
-    198_1033_08_3, // rot_vel_target_y
-    199_1041_08_3, // rot_vel_target_z
-    200_1049_04_2, // norm_cnt_rl
-    201_1053_04_2, // norm_cnt_nd
-    202_1057_04_2, // norm_cnt_radio
-    203_1061_04_1, // science_qual_flag
-    204_1065_04_2, // system_gain
-    205_1069_04_2, // antenna_temp
-    206_1073_04_2, // receiver_temp
-    207_1077_04_2, // ant_temp_std
-    208_1081_04_2, // pass_geom_time_offset
-    209_1085_04_2, // pass_pol_angle
-    210_1089_04_2, // pass_emission_angle
-    211_1093_04_2, // pass_azimuth_angle
-    212_1097_04_2, // pass_centroid_lon
-    213_1101_04_2, // pass_centroid_lat
-    214_1105_04_2, // pass_major_width
-    215_1109_04_2, // pass_minor_width
-    216_1113_04_2, // pass_ellipse_pt1_lon
-    217_1117_04_2, // pass_ellipse_pt2_lon
-    218_1121_04_2, // pass_ellipse_pt3_lon
-    219_1125_04_2, // pass_ellipse_pt4_lon
-    220_1129_04_2, // pass_ellipse_pt1_lat
-    221_1133_04_2, // pass_ellipse_pt2_lat
-    222_1137_04_2, // pass_ellipse_pt3_lat
-    223_1141_04_2, // pass_ellipse_pt4_lat
-    224_1145_04_2, // num_pulses_received
-    225_1149_04_2, // total_echo_energy
-    226_1153_04_2, // noise_echo_energy
-    227_1157_04_2, // x_factor
-    228_1161_04_2, // sigma0_uncorrected
-    229_1165_04_2, // sigma0_corrected
-    230_1169_04_2, // sigma0_uncorrected_std
-    231_1173_04_2, // surface_height
-    232_1177_04_2, // surf_ht_std
-    233_1181_04_2, // act_geom_time_offset
-    234_1185_04_2, // act_pol_angle
-    235_1189_04_2, // act_incidence_angle
-    236_1193_04_2, // act_azimuth_angle
-    237_1197_04_2, // act_centroid_lon
-    238_1201_04_2, // act_centroid_lat
-    239_1205_04_2, // act_major_width
-    240_1209_04_2, // act_minor_width
-    241_1213_04_2, // act_ellipse_pt1_lon
-    242_1217_04_2, // act_ellipse_pt2_lon
-    243_1221_04_2, // act_ellipse_pt3_lon
-    244_1225_04_2, // act_ellipse_pt4_lon
-    245_1229_04_2, // act_ellipse_pt1_lat
-    246_1233_04_2, // act_ellipse_pt2_lat
-    247_1237_04_2, // act_ellipse_pt3_lat
-    248_1241_04_2, // act_ellipse_pt4_lat
-    249_1245_04_2, // altimeter_profile_range_start
-    250_1249_04_2, // altimeter_profile_range_step
-    251_1253_04_0, // altimeter_profile_length
-    252_1257_04_2, // sar_azimuth_res
-    253_1261_04_2, // sar_range_res
-    254_1265_04_2, // sar_centroid_bidr_lon
-    255_1269_04_2, // sar_centroid_bidr_lat
-];
-
-// The number that stands at `i`.
-fn line(i: usize) -> u32
-    requires { ⌜ i < 255 ⌝ }
-    ensures { λ r. ⌜ r ≡ packedAt i ⌝ }
+// What stands behind the table's last word.
+fn none(block: usize) -> usize
+    requires { ⌜ Others 64 block ⌝ }
+    ensures { λ r. ⌜ r ≡ wordAt block ⌝ }
 {
-    let at = i % BLOCK;
-    match i / BLOCK {
-        0 => LINES_1[at],
-        1 => LINES_2[at],
-        2 => LINES_3[at],
-        _ => LINES_4[at],
+    0
+}
+
+// Section 8.1 in its order, four fields a word, from position 0 on, which no field has. A field is four
+// hexadecimal digits: three of its place in the row, and one of its type and size: 0 unsigned, 1 signed,
+// 2 a float of 4 bytes, 3 a float of 8 bytes, 4 text of 16 bytes, 5 text of 24 bytes. The compiler makes
+// stored data of this, as it does not of an array.
+fn word(block: usize) -> usize
+    ensures { λ r. ⌜ r ≡ wordAt block ⌝ }
+{
+    match block {
+        0 => 0x0000_0000_0040_0080, // sync, spacecraft_clock, burst_id
+        1 => 0x00c2_0102_0142_0180, // cds_pickup_rate, burst_start_time, header_tfi, header_tnc
+        2 => 0x01c0_0200_0240_0280, // header_typ, header_tca, header_tcb, header_tcc
+        3 => 0x02c0_0300_0340_0380, // pwri, vicc, vimc, tail_len
+        4 => 0x03c0_0400_0440_0480, // tail_id, sab_counter, sab_len, fswm
+        5 => 0x04c0_0500_0540_0580, // fswc, ctbc, rx_window_pri, ctps
+        6 => 0x05c0_0600_0640_0680, // ctbe, ctps_ctbe, header_end, slow_tfi
+        7 => 0x06c0_0700_0740_0780, // data_take_number, slow_typ, calibration_source, radar_mode
+        8 => 0x07c0_0800_0840_0882, // sin, bem, baq_mode, tro
+        9 => 0x08c2_0902_0942_0982, // receiver_bandwidth, adc_rate, at1_tot, at3_tot
+        10 => 0x09c2_0a00_0a40_0a80, // at4_tot, at1_each, at3_each, at4_each
+        11 => 0x0ac2_0b02_0b40_0b80, // antenna_int_period, chirp_time_step, num_rad_meas, num_chirp_steps
+        12 => 0x0bc2_0c02_0c42_0c80, // chirp_length, chirp_freq_step, fast_tfi, fin
+        13 => 0x0cc0_0d00_0d40_0d82, // fast_type, num_pulses, bii, burst_period
+        14 => 0x0dc2_0e02_0e42_0e80, // pri, rx_window_delay, chirp_start_freq, iebtth
+        15 => 0x0ec0_0f00_0f40_0f80, // iebtll, bgcalls, delvmn, delvda
+        16 => 0x0fc0_1000_1040_1080, // delvyr, raw_res_load_meas, raw_antenna_meas, raw_noise_diode_meas
+        17 => 0x10c0_1100_1140_1182, // eout, subr, space_craft_time, noise_diode_int_period
+        18 => 0x11c2_1202_1242_1282, // res_load_int_period, fwdtmp, be1tmp, be2tmp
+        19 => 0x12c2_1302_1342_1382, // be3tmp, be4tmp, be5tmp, diptmp
+        20 => 0x13c2_1402_1442_1482, // rlotmp, tadcal1, nsdtmp, lnatmp
+        21 => 0x14c2_1502_1542_1582, // evdtmp, mratmp, mruttm, dcgttm
+        22 => 0x15c2_1602_1642_1682, // cucttm, twttmp, epctmp, tw1ttm
+        23 => 0x16c2_1702_1742_1782, // ep1ttm, p_stmp, p_sttm, fguttm
+        24 => 0x17c2_1802_1842_1882, // tadcal4, esstmp, wgb1t1, wgb3t1
+        25 => 0x18c2_1902_1942_1982, // wgb3t2, wgb3t3, wgb5t1, pcutmp
+        26 => 0x19c2_1a02_1a42_1a82, // adctmp, tadcal2, ecltmp, cputmp
+        27 => 0x1ac2_1b02_1b42_1b82, // memtmp, sadctmp, tadcal3, frwdpw
+        28 => 0x1bc2_1c02_1c42_1c82, // dcgmon, lpltlm, nsdcur, hpapsm
+        29 => 0x1cc2_1d02_1d42_1d82, // catcur, p_smon, svlsta, usotmp
+        30 => 0x1dc2_1e02_1e42_1e82, // cpbnkv, essvlt, tadcal5, pcu5v_pos
+        31 => 0x1ec2_1f02_1f42_1f82, // pcu5i_pos, pcu5v_neg, pcu5i_neg, pcu15v_pos
+        32 => 0x1fc2_2002_2042_2082, // pcu15i_pos, pcu15v_neg, pcu15i_neg, pcu12v_neg
+        33 => 0x20c2_2102_2142_2182, // pcu12i_neg, pcucur, pllmon, ctu5i
+        34 => 0x21c2_2202_2242_2282, // tadcal6, pcu9v_pos, pcu9i_pos, pcu9v_neg
+        35 => 0x22c2_2302_2342_2380, // pcu9i_neg, tadcal7, shpttm, num_bursts_in_flight
+        36 => 0x23c0_2402_2440_2483, // raw_active_mode_length, raw_active_mode_rms, engineer_qual_flag, t_sc_clock
+        37 => 0x2503_2585_2705_2883, // t_ephem_time, t_utc_ymd, t_utc_doy, transmit_time_offset
+        38 => 0x2903_2983_2a04_2b05, // time_from_closest_approach, time_from_epoch, target_name, tbf_frame_name
+        39 => 0x2c83_2d03_2d83_2e03, // pole_right_ascension, pole_declination, target_rotation_rate, target_rotation_angle
+        40 => 0x2e82_2ec2_2f02_2f40, // scwg_tmp, feed_tmp, hga_tmp, beam_number
+        41 => 0x2f83_3003_3083_3103, // sc_pos_j2000_x, sc_pos_j2000_y, sc_pos_j2000_z, sc_vel_j2000_x
+        42 => 0x3183_3203_3283_3303, // sc_vel_j2000_y, sc_vel_j2000_z, sc_pos_target_x, sc_pos_target_y
+        43 => 0x3383_3403_3483_3503, // sc_pos_target_z, sc_vel_target_x, sc_vel_target_y, sc_vel_target_z
+        44 => 0x3583_3603_3683_3703, // sc_x_axis_j2000_x, sc_x_axis_j2000_y, sc_x_axis_j2000_z, sc_y_axis_j2000_x
+        45 => 0x3783_3803_3883_3903, // sc_y_axis_j2000_y, sc_y_axis_j2000_z, sc_z_axis_j2000_x, sc_z_axis_j2000_y
+        46 => 0x3983_3a03_3a83_3b03, // sc_z_axis_j2000_z, sc_x_axis_target_x, sc_x_axis_target_y, sc_x_axis_target_z
+        47 => 0x3b83_3c03_3c83_3d03, // sc_y_axis_target_x, sc_y_axis_target_y, sc_y_axis_target_z, sc_z_axis_target_x
+        48 => 0x3d83_3e03_3e83_3f03, // sc_z_axis_target_y, sc_z_axis_target_z, rot_vel_j2000_x, rot_vel_j2000_y
+        49 => 0x3f83_4003_4083_4103, // rot_vel_j2000_z, rot_vel_target_x, rot_vel_target_y, rot_vel_target_z
+        50 => 0x4182_41c2_4202_4241, // norm_cnt_rl, norm_cnt_nd, norm_cnt_radio, science_qual_flag
+        51 => 0x4282_42c2_4302_4342, // system_gain, antenna_temp, receiver_temp, ant_temp_std
+        52 => 0x4382_43c2_4402_4442, // pass_geom_time_offset, pass_pol_angle, pass_emission_angle, pass_azimuth_angle
+        53 => 0x4482_44c2_4502_4542, // pass_centroid_lon, pass_centroid_lat, pass_major_width, pass_minor_width
+        54 => 0x4582_45c2_4602_4642, // pass_ellipse_pt1_lon, pass_ellipse_pt2_lon, pass_ellipse_pt3_lon, pass_ellipse_pt4_lon
+        55 => 0x4682_46c2_4702_4742, // pass_ellipse_pt1_lat, pass_ellipse_pt2_lat, pass_ellipse_pt3_lat, pass_ellipse_pt4_lat
+        56 => 0x4782_47c2_4802_4842, // num_pulses_received, total_echo_energy, noise_echo_energy, x_factor
+        57 => 0x4882_48c2_4902_4942, // sigma0_uncorrected, sigma0_corrected, sigma0_uncorrected_std, surface_height
+        58 => 0x4982_49c2_4a02_4a42, // surf_ht_std, act_geom_time_offset, act_pol_angle, act_incidence_angle
+        59 => 0x4a82_4ac2_4b02_4b42, // act_azimuth_angle, act_centroid_lon, act_centroid_lat, act_major_width
+        60 => 0x4b82_4bc2_4c02_4c42, // act_minor_width, act_ellipse_pt1_lon, act_ellipse_pt2_lon, act_ellipse_pt3_lon
+        61 => 0x4c82_4cc2_4d02_4d42, // act_ellipse_pt4_lon, act_ellipse_pt1_lat, act_ellipse_pt2_lat, act_ellipse_pt3_lat
+        62 => 0x4d82_4dc2_4e02_4e40, // act_ellipse_pt4_lat, altimeter_profile_range_start, altimeter_profile_range_step, altimeter_profile_length
+        63 => 0x4e82_4ec2_4f02_4f42, // sar_azimuth_res, sar_range_res, sar_centroid_bidr_lon, sar_centroid_bidr_lat
+        _ => none(block),
     }
+}
+
+// The digits of the field at a position.
+fn digits_of(position: usize) -> usize
+    ensures { λ r. ⌜ r ≡ digitsAt position ⌝ }
+{
+    let shift = 48 - 16 * (position % 4);
+    (word(position / 4) >> shift) % 65536
 }
 
 // The type that a digit stands for.
@@ -336,6 +139,18 @@ fn type_of(digit: usize) -> Storage
     }
 }
 
+// The size that a digit stands for.
+fn size_of(digit: usize) -> usize
+    ensures { λ r. ⌜ r ≡ sizeOf digit ⌝ }
+{
+    match digit {
+        3 => 8,
+        4 => 16,
+        5 => 24,
+        _ => 4,
+    }
+}
+
 // The field at a position of section 8.1, counted from 1; a position that the section does not have is
 // refused.
 pub fn line_of(position: usize) -> Found
@@ -347,13 +162,12 @@ pub fn line_of(position: usize) -> Found
     if FIELDS < position {
         return Found::Refused(Refusal::Unknown, 0);
     }
-    let digits = line(position - 1) as usize;
-    let start = digits / 1_000 % 10_000;
-    let place = start - 1;
+    let digits = digits_of(position);
+    let digit = digits % 16;
     Found::Is(Field {
-        position: digits / 10_000_000,
-        place,
-        size: digits / 10 % 100,
-        stored: type_of(digits % 10),
+        position,
+        place: digits / 16,
+        size: size_of(digit),
+        stored: type_of(digit),
     })
 }

@@ -114,7 +114,8 @@ pub fn jump_row(kind: Kind, file: &[u8], list: &[u32], k: usize, a: usize, c: us
 }
 
 // Going on: the first whole row from a place on. From 0, in bursts from the first record's place, it is
-// row 0; from the end of one row's bytes, the next row. A strip of n rows is read so in time that grows with the strip and not with the file.
+// row 0; from the end of one row's bytes, the next row. A strip of n rows is read so in time that grows
+// with the strip and not with the file.
 pub fn row_from(kind: Kind, file: &[u8], from: usize) -> Show
     ensures { λ r. ⌜ shown r ≡ rowFrom kind (now (file .entry)) from ⌝ }
 {
