@@ -23,7 +23,7 @@ use Rattle.limits.specs.declared.Limit.{Limit}
 use Rattle.verdicts.specs.Verdict.{Side, side, limitsOf}
 use Rattle.burst_fields.specs.Fields.{contentOf, partOf, fieldFrom, fieldOf, verdictOn, fieldVerdict}
 
--- the limits of a field that is not stored as an unsigned integer: none
+-- what the table has for a field that is not stored as an unsigned integer; of an unsigned one nothing is asked
 abbrev limitsUnless : Storage → ℕ → Outcome Limit
 limitsUnless stored.Unsigned n = refuse 10 0
 limitsUnless stored.Signed n = limitsOf burstTable n

@@ -1,19 +1,13 @@
 -- `verdicts::index_of` meets its contract: the numbers that are searched are those of the named table's lines, which is compared
 -- by computing both.
-use Prim.Native.Nat.{ℕ}
-use mathlib.Core.Path.{_≡_, sym, ap, _∙_}
 use borrow.Author.Needs.{needs}
 use Rattle.limits.specs.AltimeterLimits.{altimeterTable}
 use Rattle.limits.specs.BurstLimits.{burstTable}
 use Rattle.limits.specs.Limits.{tableOf}
-use Rattle.limits.specs.declared.Table.{Table}
+use Rattle.limits.proofs.Named.{of-the-named}
 use Rattle.verdicts.specs.Private.{numbersOf, indexIn}
 use Rattle.verdicts.proofs.index_of.Statement.{statement}
 use Rattle.verdicts.proofs.index_of.Tie as tie
-
--- what was counted in one table was counted in the table with that name
-of-the-named : {r : ℕ} {t u : Table} (n : ℕ) → t ≡ u → r ≡ indexIn (numbersOf (tableOf u)) n → r ≡ indexIn (numbersOf (tableOf t)) n
-of-the-named n e counted = counted ∙ sym (ap (λ (x : Table). indexIn (numbersOf (tableOf x)) n) e)
 
 enum-told : tie.Need-enum-told
 enum-told c = search needs
@@ -35,11 +29,11 @@ index-in-requires-2 c κs = search needs
 
 returns : tie.Need-returns
 unfolding altimeterTable
-returns c = of-the-named (c .before .before .before .before .args .number) (c .before .before .enum-told .given .1) (c .index-in .ensures)
+returns c = of-the-named (λ t. indexIn (numbersOf (tableOf t)) (c .before .before .before .before .args .number)) (c .before .before .enum-told .given .1) (c .index-in .ensures)
 
 returns-2 : tie.Need-returns-2
 unfolding burstTable
-returns-2 c = of-the-named (c .before .before .before .before .args .number) (c .before .before .enum-told2 .given .1) (c .index-in2 .ensures)
+returns-2 c = of-the-named (λ t. indexIn (numbersOf (tableOf t)) (c .before .before .before .before .args .number)) (c .before .before .enum-told2 .given .1) (c .index-in2 .ensures)
 
 pub index-of-spec : {M : Type 1} → statement M
 index-of-spec =
