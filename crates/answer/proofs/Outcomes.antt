@@ -49,6 +49,16 @@ pub andThen-assoc : {A B C : Type 0} (o : Outcome A) (f : A → Outcome B) (g : 
 andThen-assoc (answer a) f g = refl
 andThen-assoc (refuse n p) f g = refl
 
+-- an answer as it is
+pub mapped-same : {A : Type 0} (o : Outcome A) → mapped (λ a. a) o ≡ o
+mapped-same (answer a) = refl
+mapped-same (refuse n p) = refl
+
+-- something of something of an answer
+pub mapped-twice : {A B C : Type 0} (o : Outcome A) (f : A → B) (g : B → C) → mapped g (mapped f o) ≡ mapped (λ a. g (f a)) o
+mapped-twice (answer a) f g = refl
+mapped-twice (refuse n p) f g = refl
+
 -- what follows an answer, and what follows a refusal
 module _ {A B : Type 0} (o : Outcome A) (next : A → Outcome B) where
   pub after-answer : (a : A) → o ≡ answer a → andThen o next ≡ next a

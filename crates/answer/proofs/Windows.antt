@@ -8,9 +8,12 @@ use lib.ListN.{take, drop}
 use lib.Seq.{take-take, drop-drop}
 use lib.Dec.{leb}
 use borrow.Author.Tests.{leb-true}
-use Rattle.answer.specs.Outcome.{answer, need}
-use Rattle.answer.specs.Window.{fits, windowOf, bytesAt}
-use Rattle.answer.specs.declared.Part.{Part}
+use Rattle.answer.proofs.Outcomes.{answer-injective, answer-is-no-refusal}
+use Rattle.answer.specs.Outcome.{Outcome, answer, refuse, need, andThen, mapped}
+use Rattle.answer.specs.Address.{withoutDepth}
+use Rattle.answer.specs.Window.{fits, windowAt, windowIn, bytesAt}
+use Rattle.answer.specs.declared.Address.{Address}
+use Rattle.answer.specs.declared.Shown.{Shown}
 
 -- the window begins in the row or at its end, and ends in it
 pub record Inside (r a c : ℕ) : Type 0 where
@@ -25,25 +28,35 @@ fitting-is-inside r a c e = go (leb a r) (leb c (r - a)) refl refl e
     go true false x y z = let w : _≡_ {A = ℕ} 0 1 = cc z in absurd (omega arith)
     go false q x y z = let w : _≡_ {A = ℕ} 0 1 = cc z in absurd (omega arith)
 
--- a window that is shown: it fits, and it is the part that was asked for
-pub record Shows (first r a c : ℕ) (part : Part) : Type 0 where
-  pub inside : Inside r a c
-  pub place : part .place ≡ first + a
-  pub count : part .count ≡ c
+-- a window that is shown: it fits, it is the part that was asked for, and it has the row's address
+pub record Shows (row : Shown) (a c : ℕ) (window : Shown) : Type 0 where
+  pub inside : Inside (row .part .count) a c
+  pub place : window .part .place ≡ row .part .place + a
+  pub count : window .part .count ≡ c
+  pub address : window .address ≡ row .address
 
-pub shown-is-inside : (first r a c : ℕ) (part : Part) → windowOf first r a c ≡ answer part → Shows first r a c part
-shown-is-inside first r a c part e = go (fits r a c) refl e
+pub shown-is-inside : (row : Shown) (a c : ℕ) (window : Shown) → windowIn a c row ≡ answer window → Shows row a c window
+shown-is-inside row a c window e = go (fits (row .part .count) a c) refl e
   where
-    go : (b : Bool) → fits r a c ≡ b → need b 7 (answer (record { place = first + a; count = c })) ≡ answer part
-        → Shows first r a c part
+    go : (b : Bool) → fits (row .part .count) a c ≡ b → need b 7 (answer (windowAt a c row)) ≡ answer window → Shows row a c window
     go true t q =
-        let p : _≡_ {A = Part} (record { place = first + a; count = c }) part = cc q in
+        let p : windowAt a c row ≡ window = answer-injective q in
         record {
-          inside = fitting-is-inside r a c t;
-          place = sym (ap (λ (x : Part). x .place) p);
-          count = sym (ap (λ (x : Part). x .count) p);
+          inside = fitting-is-inside (row .part .count) a c t;
+          place = sym (ap (λ (x : Shown). x .part .place) p);
+          count = sym (ap (λ (x : Shown). x .part .count) p);
+          address = sym (ap (λ (x : Shown). x .address) p);
         }
-    go false t q = let w : _≡_ {A = ℕ} 0 1 = cc q in absurd (omega arith)
+    go false t q = absurd (answer-is-no-refusal (sym q))
+
+-- a window of a row without its depth is the row's window without it
+pub window-without-depth : (a c : ℕ) (o : Outcome Shown) → andThen (mapped withoutDepth o) (windowIn a c) ≡ mapped withoutDepth (andThen o (windowIn a c))
+window-without-depth a c (answer row) = go (fits (row .part .count) a c)
+  where
+    go : (t : Bool) → need t 7 (answer (withoutDepth (windowAt a c row))) ≡ mapped withoutDepth (need t 7 (answer (windowAt a c row)))
+    go true = refl
+    go false = refl
+window-without-depth a c (refuse n p) = refl
 
 -- bytes from a on, within the first r, are bytes of those r
 within-the-first : (a c r : ℕ) (l : List ℕ) → a ≤ r → c ≤ r - a → take c (drop a (take r l)) ≡ take c (drop a l)

@@ -4,6 +4,7 @@
 ghost use mathlib.Core.Path.{_≡_};
 ghost use Prim.Native.Nat.{_<_};
 ghost use Rattle.answer.specs.Refusal.{numberOf};
+ghost use Rattle.answer.specs.Address.{unlabelled as unlabelledRow};
 ghost use Rattle.answer.specs.Window.{fits, bytesAt};
 
 // The most bytes that a file may have; more is refusal 14.
@@ -65,10 +66,44 @@ pub struct Part {
     pub count: usize,
 }
 
-// The part that a call shows, or a refusal with its place.
+// How a row is nested: how deep its label stands, and the place of the outermost object that it lies
+// in, in this order. Absent where the row was come to without the labels around it.
+pub enum Nesting {
+    Known(usize, usize),
+    Absent,
+}
+
+// Where a row is found again in its file: the place of its label, and how it is nested. A row without
+// a label has its own first byte for both places, at depth 0.
+pub struct Address {
+    pub label: usize,
+    pub nesting: Nesting,
+}
+
+// What is shown of a row: a part of the lent file, and the row's address, which no window moves. Each
+// place is counted from the file's first byte.
+pub struct Shown {
+    pub part: Part,
+    pub address: Address,
+}
+
+// What a call shows of a row, or a refusal with its place.
 pub enum Show {
-    Is(Part),
+    Is(Shown),
     Refused(Refusal, usize),
+}
+
+// A row that has no label, of `count` bytes from `place` on: depth 0, and its own place for both others.
+pub fn unlabelled(place: usize, count: usize) -> Shown
+    ensures { λ r. ⌜ r ≡ unlabelledRow place count ⌝ }
+{
+    Shown {
+        part: Part { place, count },
+        address: Address {
+            label: place,
+            nesting: Nesting::Known(0, place),
+        },
+    }
 }
 
 // A byte as a number to calculate with.

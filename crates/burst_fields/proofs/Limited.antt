@@ -8,6 +8,7 @@ use lib.IntN.{pos}
 use Rattle.answer.specs.Outcome.{Outcome, answer, refuse, andThen}
 use Rattle.answer.specs.Window.{bytesAt}
 use Rattle.answer.specs.declared.Part.{Part}
+use Rattle.answer.specs.declared.Shown.{Shown}
 use Rattle.answer.proofs.Outcomes.{answer-is-no-refusal, andThen-assoc, andThen-agrees-where, after-answer}
 use Rattle.little.specs.LittleEndian.{leNumber}
 use Rattle.fixed_rows.specs.Read.{findRow}
@@ -53,13 +54,13 @@ by-storage n f p stored.Float8 none = simp none
 by-storage n f p stored.Text none = simp none
 
 -- the theorem: of a row that is there, the field of section 8.1, then its limits, then the side of the number that stands in it
-pub verdict-by-the-limits : (f : List ℕ) (first k n : ℕ) (row : Part) → findRow (bursts first) f k ≡ answer row
-    → fieldVerdict f first k n ≡ andThen (fieldAt n) (λ g. judgedAt n f (partOf (row .place) g))
+pub verdict-by-the-limits : (f : List ℕ) (first k n : ℕ) (row : Shown) → findRow (bursts first) f k ≡ answer row
+    → fieldVerdict f first k n ≡ andThen (fieldAt n) (λ g. judgedAt n f (partOf (row .part .place) g))
 unfolding fieldOf
 verdict-by-the-limits f first k n row found =
-    ap (λ o. andThen o (verdictOn n)) (after-answer (findRow (bursts first) f k) (λ r. fieldFrom f (r .place) n) row found)
-    ∙ andThen-assoc (fieldAt n) (λ g. answer (contentOf (g .stored) f (partOf (row .place) g))) (verdictOn n)
+    ap (λ o. andThen o (verdictOn n)) (after-answer (findRow (bursts first) f k) (λ r. fieldFrom f (r .part .place) n) row found)
+    ∙ andThen-assoc (fieldAt n) (λ g. answer (contentOf (g .stored) f (partOf (row .part .place) g))) (verdictOn n)
     ∙ andThen-agrees-where (fieldAt n)
-    (λ g. verdictOn n (contentOf (g .stored) f (partOf (row .place) g)))
-    (λ g. judgedAt n f (partOf (row .place) g))
-    (λ g is. by-storage n f (partOf (row .place) g) (g .stored) (no-limits-unless n g is))
+    (λ g. verdictOn n (contentOf (g .stored) f (partOf (row .part .place) g)))
+    (λ g. judgedAt n f (partOf (row .part .place) g))
+    (λ g is. by-storage n f (partOf (row .part .place) g) (g .stored) (no-limits-unless n g is))

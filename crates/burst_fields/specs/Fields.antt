@@ -56,7 +56,7 @@ fieldFrom f start n = andThen (fieldAt n) (λ l. answer (contentOf (l .stored) f
 
 -- field n of row k: 14, 16, 12, 6, 10
 unfoldable pub fieldOf : List ℕ → (first : ℕ) → ℕ → ℕ → Outcome Content
-fieldOf f first k n = andThen (findRow (bursts first) f k) (λ row. fieldFrom f (row .place) n)
+fieldOf f first k n = andThen (findRow (bursts first) f k) (λ row. fieldFrom f (row .part .place) n)
 
 -- the integer that a field holds; 10 for a float or a text, which have no limits
 abbrev pub integerIn : Content → Outcome ℤ

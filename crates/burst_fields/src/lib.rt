@@ -97,7 +97,7 @@ pub fn field(file: &[u8], first: usize, k: usize, position: usize) -> Value
     ensures { λ r. ⌜ valued r ≡ fieldOf (now (file .entry)) first k position ⌝ }
 {
     match bursts::jump_to(file, first, k) {
-        Show::Is(row) => field_from(file, row.place, position),
+        Show::Is(row) => field_from(file, row.part.place, position),
         Show::Refused(why, place) => Value::Refused(why, place),
     }
 }

@@ -17,7 +17,6 @@ ghost use Rattle.fixed_rows.specs.Jump.{startOf, jumpStart, jumpTo};
 ghost use Rattle.fixed_rows.specs.From.{rowFrom};
 ghost use Rattle.bursts.specs.Rows.{recordSize, bursts};
 use answer::Count;
-use answer::Part;
 use answer::Show;
 
 // The bytes of a record.
@@ -76,10 +75,7 @@ fn record_at(found: Count) -> Show
     ensures { λ r. ⌜ shown r ≡ mapped (rowAt (bursts 0)) (counted found) ⌝ }
 {
     match found {
-        Count::Is(place) => Show::Is(Part {
-            place,
-            count: RECORD,
-        }),
+        Count::Is(place) => Show::Is(answer::unlabelled(place, RECORD)),
         Count::Refused(why, place) => Show::Refused(why, place),
     }
 }

@@ -3,8 +3,12 @@ use Prim.Native.Nat.{ℕ, _-_}
 use mathlib.Core.List.{List, [], _∷_}
 use Rattle.label.specs.declared.Four.{Four}
 use lib.IntN.{ℤ, pos, negsuc}
+use lib.ListN.{getD}
 use Rattle.answer.specs.Outcome.{Outcome, answer, refuse}
 use Rattle.answer.specs.Refusal.{numberOf}
+use Rattle.answer.specs.declared.Nesting.{Nesting}
+use Rattle.answer.specs.declared.Nesting.the-variants.{Known, Absent}
+use Rattle.answer.specs.declared.Shown.{Shown}
 use Rattle.verdicts.specs.Verdict.{Side, below, inside, above}
 use Rattle.burst_fields.specs.Fields as field
 use Rattle.burst_codes.specs.Beams as mask
@@ -16,6 +20,31 @@ use Rattle.capi.specs.declared.hand.Told.the-variants.{Is, Refused}
 -- four characters as four bytes
 abbrev pub fourBytes : Four → List ℕ
 fourBytes f = f .a ∷ f .b ∷ f .c ∷ f .d ∷ []
+
+-- whether the depth is known: 1, and 0 where it is absent
+abbrev pub nestingNumber : Nesting → ℕ
+nestingNumber (Known depth outermost) = 1
+nestingNumber Absent = 0
+
+-- what is handed over of the depth and of the outermost place: where they are absent, what was there
+abbrev pub depthHanded : Nesting → ℕ → ℕ
+depthHanded (Known depth outermost) old = depth
+depthHanded Absent old = old
+
+abbrev pub outermostHanded : Nesting → ℕ → ℕ
+outermostHanded (Known depth outermost) old = outermost
+outermostHanded Absent old = old
+
+-- what is shown of a row, in six numbers, over the six that were there
+abbrev pub rowNumbers : List ℕ → Shown → List ℕ
+rowNumbers old s =
+    s .part .place
+    ∷ s .part .count
+    ∷ s .address .label
+    ∷ nestingNumber (s .address .nesting)
+    ∷ depthHanded (s .address .nesting) (getD old 4 0)
+    ∷ outermostHanded (s .address .nesting) (getD old 5 0)
+    ∷ []
 
 -- a verdict as a number
 abbrev pub sideNumber : Side → ℕ

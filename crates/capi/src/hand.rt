@@ -2,6 +2,7 @@
 // over: its parts through the pointers, and the result by value. On a refusal no pointer is written.
 use crate::Result;
 use answer::Count;
+use answer::Nesting;
 use answer::Refusal;
 use answer::Show;
 use burst_fields::Value;
@@ -18,7 +19,7 @@ ghost use Rattle.answer.specs.Outcome.{mapped};
 ghost use Rattle.vax.specs.Decoded.{decoded};
 ghost use Rattle.burst_fields.specs.Fields.{valued};
 ghost use Rattle.verdicts.specs.Judged.{judged};
-ghost use Rattle.capi.specs.Parts.{sideNumber, bitsOf, inNumbers, told};
+ghost use Rattle.capi.specs.Parts.{rowNumbers, sideNumber, bitsOf, inNumbers, told};
 ghost use Rattle.capi.specs.Handed.{refusedAs, resultOf, handed};
 ghost use Rattle.capi.specs.Numbers.{choiceOf, numberedVersion, versionRead};
 
@@ -89,19 +90,34 @@ pub fn count(answer: Count, number: &mut usize) -> Result
     }
 }
 
-// A part of the file: its place and how many bytes it has.
-pub fn part(answer: Show, place: &mut usize, bytes: &mut usize) -> Result
+// What is shown of a row, in six numbers: its place, how many bytes it has, its label's place, whether
+// its depth is known, its depth, and its outermost object's place. Where the last two are absent, they
+// stay as they were.
+pub fn row(answer: Show, numbers: &mut [usize; 6]) -> Result
     ensures { λ r. ⌜ r ≡ resultOf (shown answer) ⌝ }
-    ensures { λ _. ⌜ now (place .exit) ≡ handed (λ p. p .place) (shown answer) (now (place .entry)) ⌝ }
-    ensures { λ _. ⌜ now (bytes .exit) ≡ handed (λ p. p .count) (shown answer) (now (bytes .entry)) ⌝ }
+    ensures { λ _. ⌜ now (numbers .exit) ≡ handed (rowNumbers (now (numbers .entry))) (shown answer) (now (numbers .entry)) ⌝ }
 {
     match answer {
-        Show::Is(p) => {
-            *place = p.place;
-            *bytes = p.count;
-            DONE
+        Show::Is(s) => {
+            let place = s.part.place;
+            let count = s.part.count;
+            let address = s.address;
+            let label = address.label;
+            let nesting = address.nesting;
+            match nesting {
+                Nesting::Known(depth, outermost) => {
+                    *numbers = [place, count, label, 1, depth, outermost];
+                    DONE
+                }
+                Nesting::Absent => {
+                    let depth = numbers[4];
+                    let outermost = numbers[5];
+                    *numbers = [place, count, label, 0, depth, outermost];
+                    DONE
+                }
+            }
         }
-        Show::Refused(why, at) => refused(why, at),
+        Show::Refused(why, place) => refused(why, place),
     }
 }
 

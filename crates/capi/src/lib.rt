@@ -1,9 +1,10 @@
 // The C boundary: one exported function for each call of docs/CONFORMANCE.md, in its order, with
 // `row_from` after the jumps. Renders document 01's "Every refusal carries its number and a place" as
 // the result, by value, and an answer's parts through pointers, which a refused call does not write.
-// A call that reads labels is told by `version_2` whether labels of version 2 are allowed. What is
-// answered is left to the crates below; the C declarations, and what a C caller owes, are left to the
-// header.
+// A call that reads labels is told by `version_2` whether labels of version 2 are allowed. A row is six
+// numbers: place, count, its label's place, 1 or 0 for whether its depth is known, its depth, its
+// outermost object's place. What is answered is left to the crates below; the C declarations, and what
+// a C caller owes, are left to the header.
 mod hand;
 
 use burst_codes::Compression;
@@ -35,7 +36,7 @@ ghost use Rattle.burst_fields.specs.Fields.{fieldOf, fieldVerdict};
 ghost use Rattle.burst_codes.specs.Beams.{verdictIn, beamsOf};
 ghost use Rattle.burst_codes.specs.Modes.{numbered};
 ghost use Rattle.capi.specs.Handed.{resultOf, handed};
-ghost use Rattle.capi.specs.Parts.{fourBytes, sideNumber, inNumbers, beamsHanded, modeHanded};
+ghost use Rattle.capi.specs.Parts.{fourBytes, rowNumbers, sideNumber, inNumbers, beamsHanded, modeHanded};
 ghost use Rattle.capi.specs.Numbers.{choiceOf, writeNumbered};
 
 // What every call returns: a refusal's number and its place; 0 and 0 for an answer.
@@ -143,14 +144,12 @@ pub extern "C" fn crest_read_row_labelled(
     row: usize,
     first: usize,
     count: usize,
-    place: &mut usize,
-    shown: &mut usize,
+    shown: &mut [usize; 6],
 ) -> Result
     ensures { λ r. ⌜ r ≡ resultOf (readRow (Kind.Labelled (choiceOf version_2)) (now (file .entry)) row first count) ⌝ }
-    ensures { λ _. ⌜ now (place .exit) ≡ handed (λ p. p .place) (readRow (Kind.Labelled (choiceOf version_2)) (now (file .entry)) row first count) (now (place .entry)) ⌝ }
-    ensures { λ _. ⌜ now (shown .exit) ≡ handed (λ p. p .count) (readRow (Kind.Labelled (choiceOf version_2)) (now (file .entry)) row first count) (now (shown .entry)) ⌝ }
+    ensures { λ _. ⌜ now (shown .exit) ≡ handed (rowNumbers (now (shown .entry))) (readRow (Kind.Labelled (choiceOf version_2)) (now (file .entry)) row first count) (now (shown .entry)) ⌝ }
 {
-    hand::part(
+    hand::row(
         reader::read_row(
             Kind::Labelled(hand::choice(version_2)),
             file,
@@ -158,7 +157,6 @@ pub extern "C" fn crest_read_row_labelled(
             first,
             count,
         ),
-        place,
         shown,
     )
 }
@@ -170,16 +168,13 @@ pub extern "C" fn crest_read_row_waveform(
     row: usize,
     first: usize,
     count: usize,
-    place: &mut usize,
-    shown: &mut usize,
+    shown: &mut [usize; 6],
 ) -> Result
     ensures { λ r. ⌜ r ≡ resultOf (readRow Kind.Waveform (now (file .entry)) row first count) ⌝ }
-    ensures { λ _. ⌜ now (place .exit) ≡ handed (λ p. p .place) (readRow Kind.Waveform (now (file .entry)) row first count) (now (place .entry)) ⌝ }
-    ensures { λ _. ⌜ now (shown .exit) ≡ handed (λ p. p .count) (readRow Kind.Waveform (now (file .entry)) row first count) (now (shown .entry)) ⌝ }
+    ensures { λ _. ⌜ now (shown .exit) ≡ handed (rowNumbers (now (shown .entry))) (readRow Kind.Waveform (now (file .entry)) row first count) (now (shown .entry)) ⌝ }
 {
-    hand::part(
+    hand::row(
         reader::read_row(Kind::Waveform, file, row, first, count),
-        place,
         shown,
     )
 }
@@ -192,16 +187,13 @@ pub extern "C" fn crest_read_row_bursts(
     row: usize,
     first: usize,
     count: usize,
-    place: &mut usize,
-    shown: &mut usize,
+    shown: &mut [usize; 6],
 ) -> Result
     ensures { λ r. ⌜ r ≡ resultOf (readRow (Kind.Bursts start) (now (file .entry)) row first count) ⌝ }
-    ensures { λ _. ⌜ now (place .exit) ≡ handed (λ p. p .place) (readRow (Kind.Bursts start) (now (file .entry)) row first count) (now (place .entry)) ⌝ }
-    ensures { λ _. ⌜ now (shown .exit) ≡ handed (λ p. p .count) (readRow (Kind.Bursts start) (now (file .entry)) row first count) (now (shown .entry)) ⌝ }
+    ensures { λ _. ⌜ now (shown .exit) ≡ handed (rowNumbers (now (shown .entry))) (readRow (Kind.Bursts start) (now (file .entry)) row first count) (now (shown .entry)) ⌝ }
 {
-    hand::part(
+    hand::row(
         reader::read_row(Kind::Bursts(start), file, row, first, count),
-        place,
         shown,
     )
 }
@@ -215,16 +207,13 @@ pub extern "C" fn crest_jump_labelled(
     row: usize,
     first: usize,
     count: usize,
-    place: &mut usize,
-    shown: &mut usize,
+    shown: &mut [usize; 6],
 ) -> Result
     ensures { λ r. ⌜ r ≡ resultOf (jumpRow (Kind.Labelled (choiceOf version_2)) (now (file .entry)) (now (list .entry)) row first count) ⌝ }
-    ensures { λ _. ⌜ now (place .exit) ≡ handed (λ p. p .place) (jumpRow (Kind.Labelled (choiceOf version_2)) (now (file .entry)) (now (list .entry)) row first count) (now (place .entry)) ⌝ }
-    ensures { λ _. ⌜ now (shown .exit) ≡ handed (λ p. p .count) (jumpRow (Kind.Labelled (choiceOf version_2)) (now (file .entry)) (now (list .entry)) row first count) (now (shown .entry)) ⌝ }
+    ensures { λ _. ⌜ now (shown .exit) ≡ handed (rowNumbers (now (shown .entry))) (jumpRow (Kind.Labelled (choiceOf version_2)) (now (file .entry)) (now (list .entry)) row first count) (now (shown .entry)) ⌝ }
 {
-    hand::part(
+    hand::row(
         reader::jump_labelled(hand::choice(version_2), file, list, row, first, count),
-        place,
         shown,
     )
 }
@@ -236,14 +225,12 @@ pub extern "C" fn crest_jump_waveform(
     row: usize,
     first: usize,
     count: usize,
-    place: &mut usize,
-    shown: &mut usize,
+    shown: &mut [usize; 6],
 ) -> Result
     ensures { λ r. ⌜ r ≡ resultOf (jumpRow Kind.Waveform (now (file .entry)) [] row first count) ⌝ }
-    ensures { λ _. ⌜ now (place .exit) ≡ handed (λ p. p .place) (jumpRow Kind.Waveform (now (file .entry)) [] row first count) (now (place .entry)) ⌝ }
-    ensures { λ _. ⌜ now (shown .exit) ≡ handed (λ p. p .count) (jumpRow Kind.Waveform (now (file .entry)) [] row first count) (now (shown .entry)) ⌝ }
+    ensures { λ _. ⌜ now (shown .exit) ≡ handed (rowNumbers (now (shown .entry))) (jumpRow Kind.Waveform (now (file .entry)) [] row first count) (now (shown .entry)) ⌝ }
 {
-    hand::part(reader::jump_waveform(file, row, first, count), place, shown)
+    hand::row(reader::jump_waveform(file, row, first, count), shown)
 }
 
 // A window of a burst file's record, jumped to with no list.
@@ -254,18 +241,12 @@ pub extern "C" fn crest_jump_bursts(
     row: usize,
     first: usize,
     count: usize,
-    place: &mut usize,
-    shown: &mut usize,
+    shown: &mut [usize; 6],
 ) -> Result
     ensures { λ r. ⌜ r ≡ resultOf (jumpRow (Kind.Bursts start) (now (file .entry)) [] row first count) ⌝ }
-    ensures { λ _. ⌜ now (place .exit) ≡ handed (λ p. p .place) (jumpRow (Kind.Bursts start) (now (file .entry)) [] row first count) (now (place .entry)) ⌝ }
-    ensures { λ _. ⌜ now (shown .exit) ≡ handed (λ p. p .count) (jumpRow (Kind.Bursts start) (now (file .entry)) [] row first count) (now (shown .entry)) ⌝ }
+    ensures { λ _. ⌜ now (shown .exit) ≡ handed (rowNumbers (now (shown .entry))) (jumpRow (Kind.Bursts start) (now (file .entry)) [] row first count) (now (shown .entry)) ⌝ }
 {
-    hand::part(
-        reader::jump_bursts(file, start, row, first, count),
-        place,
-        shown,
-    )
+    hand::row(reader::jump_bursts(file, start, row, first, count), shown)
 }
 
 // The first row of a labelled file from a place on.
@@ -274,16 +255,13 @@ pub extern "C" fn crest_row_from_labelled(
     file: &[u8],
     version_2: bool,
     from: usize,
-    place: &mut usize,
-    shown: &mut usize,
+    shown: &mut [usize; 6],
 ) -> Result
     ensures { λ r. ⌜ r ≡ resultOf (rowFrom (Kind.Labelled (choiceOf version_2)) (now (file .entry)) from) ⌝ }
-    ensures { λ _. ⌜ now (place .exit) ≡ handed (λ p. p .place) (rowFrom (Kind.Labelled (choiceOf version_2)) (now (file .entry)) from) (now (place .entry)) ⌝ }
-    ensures { λ _. ⌜ now (shown .exit) ≡ handed (λ p. p .count) (rowFrom (Kind.Labelled (choiceOf version_2)) (now (file .entry)) from) (now (shown .entry)) ⌝ }
+    ensures { λ _. ⌜ now (shown .exit) ≡ handed (rowNumbers (now (shown .entry))) (rowFrom (Kind.Labelled (choiceOf version_2)) (now (file .entry)) from) (now (shown .entry)) ⌝ }
 {
-    hand::part(
-        walk::value_from(hand::choice(version_2), file, from, 0),
-        place,
+    hand::row(
+        walk::row_from(hand::choice(version_2), file, from, 0),
         shown,
     )
 }
@@ -293,14 +271,12 @@ pub extern "C" fn crest_row_from_labelled(
 pub extern "C" fn crest_row_from_waveform(
     file: &[u8],
     from: usize,
-    place: &mut usize,
-    shown: &mut usize,
+    shown: &mut [usize; 6],
 ) -> Result
     ensures { λ r. ⌜ r ≡ resultOf (rowFrom Kind.Waveform (now (file .entry)) from) ⌝ }
-    ensures { λ _. ⌜ now (place .exit) ≡ handed (λ p. p .place) (rowFrom Kind.Waveform (now (file .entry)) from) (now (place .entry)) ⌝ }
-    ensures { λ _. ⌜ now (shown .exit) ≡ handed (λ p. p .count) (rowFrom Kind.Waveform (now (file .entry)) from) (now (shown .entry)) ⌝ }
+    ensures { λ _. ⌜ now (shown .exit) ≡ handed (rowNumbers (now (shown .entry))) (rowFrom Kind.Waveform (now (file .entry)) from) (now (shown .entry)) ⌝ }
 {
-    hand::part(waveform::row_from(file, from), place, shown)
+    hand::row(waveform::row_from(file, from), shown)
 }
 
 // The record of a burst file that begins at a place.
@@ -309,14 +285,12 @@ pub extern "C" fn crest_row_from_bursts(
     file: &[u8],
     start: usize,
     from: usize,
-    place: &mut usize,
-    shown: &mut usize,
+    shown: &mut [usize; 6],
 ) -> Result
     ensures { λ r. ⌜ r ≡ resultOf (rowFrom (Kind.Bursts start) (now (file .entry)) from) ⌝ }
-    ensures { λ _. ⌜ now (place .exit) ≡ handed (λ p. p .place) (rowFrom (Kind.Bursts start) (now (file .entry)) from) (now (place .entry)) ⌝ }
-    ensures { λ _. ⌜ now (shown .exit) ≡ handed (λ p. p .count) (rowFrom (Kind.Bursts start) (now (file .entry)) from) (now (shown .entry)) ⌝ }
+    ensures { λ _. ⌜ now (shown .exit) ≡ handed (rowNumbers (now (shown .entry))) (rowFrom (Kind.Bursts start) (now (file .entry)) from) (now (shown .entry)) ⌝ }
 {
-    hand::part(bursts::row_from(file, start, from), place, shown)
+    hand::row(bursts::row_from(file, start, from), shown)
 }
 
 // Writes the index of a labelled file to the front of the list.

@@ -5,7 +5,7 @@ use lib.Ieee.{odd}
 use Rattle.label.specs.Label.{readLabel}
 use Rattle.sfdu.specs.Scan.{object, level, objects, scan}
 use Rattle.sfdu.specs.Check.{rowsOfFile, checkLabelled}
-use Rattle.walk.specs.Find as labelled
+use Rattle.sfdu.specs.Find as labelled
 use Rattle.row_index.specs.Index.{buildIndex, checkIndex}
 use Rattle.waveform.proofs.Cases as waveform
 use Rattle.reader.specs.Rows.{checkFile}

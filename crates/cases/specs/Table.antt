@@ -9,6 +9,8 @@ use lib.ListN.{length, replicate}
 use lib.IntN.{pos, negℤ}
 use lib.Ieee.{fin}
 use Rattle.answer.specs.Outcome.{answer, refuse, mapped}
+use Rattle.answer.specs.declared.Nesting.the-variants.{Known}
+use Rattle.answer.specs.declared.Shown.{Shown}
 use Rattle.label.specs.declared.Versions.{Versions}
 use Rattle.sfdu.specs.Check.{rowsOfFile}
 use Rattle.row_index.specs.Index.{indexOf, buildIndex, checkIndex}
@@ -22,6 +24,13 @@ use Rattle.verdicts.specs.Verdict.{below, inside, above, verdictOf}
 use Rattle.listing.specs.Listing.{listingOf}
 use Rattle.cases.specs.Files.{sixtyThree, printed, shorterOutside, longerInside}
 
+-- what is shown of a row: place, count, and its address, the label's place, the depth, the outermost object's place (document 02, item 8)
+abbrev pub row : (place count label depth outermost : ℕ) → Shown
+row place count label depth outermost = record {
+  part = record { place = place; count = count };
+  address = record { label = label; nesting = Known depth outermost };
+}
+
 pub record Table : Type 0 where
   -- 1: the empty file is accepted with 0 rows; row 0 gives 6
   pub empty-is-accepted : (v : Versions) → checkFile (Labelled v) [] ≡ answer 0
@@ -33,8 +42,8 @@ pub record Table : Type 0 where
       → rowsOfFile v sixtyThree
       ≡ answer
       (record { label = 20; size = 3; depth = 2; outermost = 0 } ∷ record { label = 43; size = 0; depth = 2; outermost = 0 } ∷ [])
-  pub row-0 : (v : Versions) → readRow (Labelled v) sixtyThree 0 0 3 ≡ answer (record { place = 40; count = 3 })
-  pub row-1 : (v : Versions) → readRow (Labelled v) sixtyThree 1 0 0 ≡ answer (record { place = 63; count = 0 })
+  pub row-0 : (v : Versions) → readRow (Labelled v) sixtyThree 0 0 3 ≡ answer (row 40 3 20 2 0)
+  pub row-1 : (v : Versions) → readRow (Labelled v) sixtyThree 1 0 0 ≡ answer (row 63 0 43 2 0)
   pub its-listing : listingOf sixtyThree ≡ printed
   pub one-entry : (v : Versions) → mapped indexOf (buildIndex v sixtyThree 1) ≡ answer (20 ∷ [])
   pub its-index : (v : Versions) → checkIndex v sixtyThree (20 ∷ []) ≡ answer tt
@@ -47,13 +56,13 @@ pub record Table : Type 0 where
   pub no-bytes : checkFile Waveform [] ≡ answer 0
   -- 8: in a file of 32 waveform rows, row 31's samples begin at 64,512; its window at 1,024 begins at 65,536. Each is stated of
   -- reading and of the jump
-  pub row-31 : (f : List ℕ) (c : ℕ) → length f ≡ 2080 * 32 → c ≤ 2048 → readRow Waveform f 31 0 c ≡ answer (record { place = 64512; count = c })
+  pub row-31 : (f : List ℕ) (c : ℕ) → length f ≡ 2080 * 32 → c ≤ 2048 → readRow Waveform f 31 0 c ≡ answer (row 64512 c 64512 0 64512)
   pub jump-to-row-31 : (f xs : List ℕ) (c : ℕ) → length f ≡ 2080 * 32 → c ≤ 2048
-      → jumpRow Waveform f xs 31 0 c ≡ answer (record { place = 64512; count = c })
+      → jumpRow Waveform f xs 31 0 c ≡ answer (row 64512 c 64512 0 64512)
   pub row-31-at-1024 : (f : List ℕ) (c : ℕ) → length f ≡ 2080 * 32 → c ≤ 1024
-      → readRow Waveform f 31 1024 c ≡ answer (record { place = 65536; count = c })
+      → readRow Waveform f 31 1024 c ≡ answer (row 65536 c 64512 0 64512)
   pub jump-to-row-31-at-1024 : (f xs : List ℕ) (c : ℕ) → length f ≡ 2080 * 32 → c ≤ 1024
-      → jumpRow Waveform f xs 31 1024 c ≡ answer (record { place = 65536; count = c })
+      → jumpRow Waveform f xs 31 1024 c ≡ answer (row 65536 c 64512 0 64512)
   -- 10: samples 0, 127, 128, 255 give −255, −1, 1, 255
   pub sample-0 : twiceAmplitude 0 ≡ negℤ (pos 255)
   pub sample-127 : twiceAmplitude 127 ≡ negℤ (pos 1)

@@ -11,7 +11,7 @@ use lib.Seq.{take-at, drop-at, drop-drop}
 use Rattle.answer.specs.Outcome.{Outcome, answer, refuse, mapped}
 use Rattle.answer.specs.Size.{largestFile}
 use Rattle.answer.specs.Window.{bytesAt}
-use Rattle.answer.specs.declared.Part.{Part}
+use Rattle.answer.specs.declared.Shown.{Shown}
 use Rattle.answer.proofs.Outcomes.{mapped-answer}
 use Rattle.fixed_rows.specs.Shape.{Shape, step}
 use Rattle.fixed_rows.specs.Check.{rowCount}
@@ -81,7 +81,7 @@ module _ (s : Shape) where
   -- ---- the bytes of the file at each row
 
   rows-shown : (f : List ℕ) (rs : List Row) → AreRows s rs → (k : ℕ) → drop (startOf (s .first) (step s) k) f ≡ endToEnd rs
-      → map (λ (p : Part). bytesAt f (p .place) (p .count)) (rowsFrom s k (length rs)) ≡ map (λ (r : Row). r .shown) rs
+      → map (λ (p : Shown). bytesAt f (p .part .place) (p .part .count)) (rowsFrom s k (length rs)) ≡ map (λ (r : Row). r .shown) rs
   rows-shown f [] all k e = refl
   rows-shown f (r ∷ rs) all k e =
       let start = startOf (s .first) (step s) k in
@@ -92,7 +92,7 @@ module _ (s : Shape) where
       (ap (λ (n : ℕ). drop n f) next ∙ sym (drop-drop (step s) start f) ∙ ap (drop (step s)) e ∙ front-rest r (endToEnd rs) (all .0)))
 
   pub bytes-are-shown : (f : List ℕ) (d : Division) → IsDivision s d → together d ≡ f
-      → map (λ (p : Part). bytesAt f (p .place) (p .count)) (rowsIn s d) ≡ bytesIn d
+      → map (λ (p : Shown). bytesAt f (p .part .place) (p .part .count)) (rowsIn s d) ≡ bytesIn d
   bytes-are-shown f d is e =
       rows-shown f (d .rows) (is .are-rows) 0
       (ap (λ (n : ℕ). drop n f) {x = startOf (s .first) (step s) 0} {y = s .first} (omega (arith, mul-zero (step s)))
@@ -140,7 +140,7 @@ module _ (s : Shape) where
         (record { within = small; rows = omega (arith, size, is .front-size, end-to-end-size (d .rows) (is .are-rows)) })
 
     -- the rows are those of the division, within the size limit
-    pub rows-are-divided : (rows : List Part)
+    pub rows-are-divided : (rows : List Shown)
         → (rowParts s f ≡ answer rows)
         ↔ ((length f ≤ largestFile) × ((d : Division) × IsDivision s d × (together d ≡ f) × (rowsIn s d ≡ rows)))
     rows-are-divided rows = (

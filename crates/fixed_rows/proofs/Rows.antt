@@ -10,7 +10,7 @@ use lib.Dec.{ltb}
 use borrow.Author.Tests.{lt-ltb, le-ltb, ltb-true}
 use Rattle.answer.specs.Outcome.{answer, refuse, need, mapped}
 use Rattle.answer.specs.Size.{largestFile}
-use Rattle.answer.specs.declared.Part.{Part}
+use Rattle.answer.specs.declared.Shown.{Shown}
 use Rattle.answer.proofs.Outcomes.{after-answer, first-answered, mapped-answer, passed, answer-injective}
 use Rattle.fixed_rows.specs.Shape.{Shape, step, rowAt}
 use Rattle.fixed_rows.specs.Check.{rowCount}
@@ -85,14 +85,14 @@ module _ (s : Shape) (some : 0 < step s) (f : List ℕ) where
         ap (mapped (rowAt s)) (sym (jump-start-is-read-start (s .first) (step s) some f k) ∙ jump-misses (s .first) (step s) f k n e h)
 
   -- a row that was found lies in the file
-  pub row-inside : (k : ℕ) (p : Part) → findRow s f k ≡ answer p → p .place + p .count ≤ length f
+  pub row-inside : (k : ℕ) (p : Shown) → findRow s f k ≡ answer p → p .part .place + p .part .count ≤ length f
   row-inside k p e =
       let (start, found, is) = mapped-answer (rowAt s) (readStart (s .first) (step s) f k) p e in
-      subst (λ (r : Part). r .place + r .count ≤ length f) is
+      subst (λ (r : Shown). r .part .place + r .part .count ≤ length f) is
       (omega (arith, found-ends-inside (s .first) (step s) f k some start found))
 
 -- and has the bytes of a row
-pub row-has-its-size : (s : Shape) (f : List ℕ) (k : ℕ) (p : Part) → findRow s f k ≡ answer p → p .count ≡ s .size
+pub row-has-its-size : (s : Shape) (f : List ℕ) (k : ℕ) (p : Shown) → findRow s f k ≡ answer p → p .part .count ≡ s .size
 row-has-its-size s f k p e =
     let (start, found, is) = mapped-answer (rowAt s) (readStart (s .first) (step s) f k) p e in
-    sym (ap (λ (r : Part). r .count) is)
+    sym (ap (λ (r : Shown). r .part .count) is)

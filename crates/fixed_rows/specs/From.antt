@@ -6,7 +6,7 @@ use mathlib.Core.List.{List}
 use lib.ListN.{length}
 use lib.Dec.{leb, ltb, eqb}
 use Rattle.answer.specs.Outcome.{Outcome, answer, need, andThen, mapped}
-use Rattle.answer.specs.declared.Part.{Part}
+use Rattle.answer.specs.declared.Shown.{Shown}
 use Rattle.fixed_rows.specs.Shape.{Shape, step, rowAt}
 use Rattle.fixed_rows.specs.Check.{rowCount}
 
@@ -17,5 +17,5 @@ starts first step bytes from = leb first from && (ltb from bytes && eqb ((from -
 abbrev pub startFrom : (first step : ℕ) → List ℕ → ℕ → Outcome ℕ
 startFrom first step f from = andThen (rowCount first step f) (λ rows. need (starts first step (length f) from) 6 (answer from))
 
-abbrev pub rowFrom : Shape → List ℕ → ℕ → Outcome Part
+abbrev pub rowFrom : Shape → List ℕ → ℕ → Outcome Shown
 rowFrom s f from = mapped (rowAt s) (startFrom (s .first) (step s) f from)

@@ -4,7 +4,7 @@ use Prim.Native.Nat.{ℕ, _+_, _*_}
 use mathlib.Core.List.{List}
 use lib.Dec.{ltb}
 use Rattle.answer.specs.Outcome.{Outcome, answer, need, andThen, mapped}
-use Rattle.answer.specs.declared.Part.{Part}
+use Rattle.answer.specs.declared.Shown.{Shown}
 use Rattle.fixed_rows.specs.Shape.{Shape, step, rowAt}
 use Rattle.fixed_rows.specs.Check.{rowCount}
 
@@ -20,5 +20,5 @@ abbrev pub jumpStart : (first step : ℕ) → List ℕ → ℕ → Outcome ℕ
 jumpStart first step f k = mapped (startOf first step) (rowNumbered first step f k)
 
 -- row k
-abbrev pub jumpTo : Shape → List ℕ → ℕ → Outcome Part
+abbrev pub jumpTo : Shape → List ℕ → ℕ → Outcome Shown
 jumpTo s f k = mapped (rowAt s) (jumpStart (s .first) (step s) f k)

@@ -5,7 +5,7 @@ use Prim.Native.Nat.{ℕ, zero, suc, _+_}
 use mathlib.Core.List.{List, [], _∷_}
 use lib.ListN.{drop}
 use Rattle.answer.specs.Outcome.{Outcome, answer, refuse, andThen, mapped}
-use Rattle.answer.specs.declared.Part.{Part}
+use Rattle.answer.specs.declared.Shown.{Shown}
 use Rattle.fixed_rows.specs.Shape.{Shape, step, rowAt}
 use Rattle.fixed_rows.specs.Check.{rowCount}
 
@@ -24,5 +24,5 @@ abbrev pub readStart : (first step : ℕ) → List ℕ → ℕ → Outcome ℕ
 readStart first step f k = andThen (rowCount first step f) (λ rows. passing step k first (drop first f))
 
 -- row k
-abbrev pub findRow : Shape → List ℕ → ℕ → Outcome Part
+abbrev pub findRow : Shape → List ℕ → ℕ → Outcome Shown
 findRow s f k = mapped (rowAt s) (readStart (s .first) (step s) f k)

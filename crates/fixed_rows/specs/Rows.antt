@@ -5,18 +5,18 @@ use mathlib.Core.Path.{_≡_}
 use mathlib.Core.List.{List, [], _∷_, _++_, map}
 use lib.ListN.{length}
 use Rattle.answer.specs.Outcome.{Outcome, mapped}
-use Rattle.answer.specs.declared.Part.{Part}
+use Rattle.answer.specs.declared.Shown.{Shown}
 use Rattle.fixed_rows.specs.Shape.{Shape, step, rowAt}
 use Rattle.fixed_rows.specs.Check.{countRows}
 use Rattle.fixed_rows.specs.Jump.{startOf}
 
 -- n rows, from row k on
-abbrev pub rowsFrom : Shape → ℕ → ℕ → List Part
+abbrev pub rowsFrom : Shape → ℕ → ℕ → List Shown
 rowsFrom s k zero = []
 rowsFrom s k (suc n) = rowAt s (startOf (s .first) (step s) k) ∷ rowsFrom s (suc k) n
 
 -- the rows of a file, in file order
-abbrev pub rowParts : Shape → List ℕ → Outcome (List Part)
+abbrev pub rowParts : Shape → List ℕ → Outcome (List Shown)
 rowParts s f = mapped (rowsFrom s 0) (countRows s f)
 
 -- the bytes of a row as they stand in a file: those that are passed over, and those that are shown
@@ -50,7 +50,7 @@ pub record IsDivision (s : Shape) (d : Division) : Type 0 where
 abbrev pub together : Division → List ℕ
 together d = d .front ++ endToEnd (d .rows)
 
-abbrev pub rowsIn : Shape → Division → List Part
+abbrev pub rowsIn : Shape → Division → List Shown
 rowsIn s d = rowsFrom s 0 (length (d .rows))
 
 abbrev pub bytesIn : Division → List (List ℕ)

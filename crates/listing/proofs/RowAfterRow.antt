@@ -7,9 +7,10 @@ use mathlib.Core.Path.{_≡_, refl, _∙_, sym, ap}
 use mathlib.Core.List.{List, [], _∷_}
 use lib.ListN.{length, getD, take, drop}
 use lib.Seq.{getD-take, getD-drop, drop-drop}
-use Rattle.answer.specs.Outcome.{Outcome, answer, andThen}
+use Rattle.answer.specs.Outcome.{Outcome, answer, andThen, mapped}
+use Rattle.answer.specs.Nth.{nth}
 use Rattle.answer.specs.Size.{largestFile}
-use Rattle.answer.specs.declared.Part.{Part}
+use Rattle.answer.specs.declared.Shown.{Shown}
 use Rattle.answer.proofs.Outcomes.{first-answered, answer-injective}
 use Rattle.label.specs.declared.Versions.the-variants.{One}
 use Rattle.label.specs.declared.Label.{Label}
@@ -18,12 +19,11 @@ use Rattle.label.specs.Length.{fieldSize, spacesIn, spacesAt}
 use Rattle.label.specs.Label.{readLabel}
 use Rattle.label.proofs.Read.{read-says, version-is-allowed, only-one-is-one, ReadDigits, digits-say}
 use Rattle.walk.specs.declared.Leaf.{Leaf}
-use Rattle.sfdu.specs.Row.{Row, valueAt, valueOf}
+use Rattle.sfdu.specs.Row.{Row, valueAt}
 use Rattle.sfdu.specs.Scan.{scan}
-use Rattle.walk.specs.Walk.{walkFrom}
-use Rattle.walk.specs.Find.{nthRow, valueAtLeaf}
+use Rattle.walk.specs.Walk.{rowAtLeaf, walkFrom}
 use Rattle.walk.proofs.WalkLoop.{place-inside}
-use Rattle.walk.proofs.WalkReads.{walkAt, behind, walk-reads-rows, a-leaf-is-found, found-ends-inside}
+use Rattle.walk.proofs.WalkReads.{asWalked, walkAt, behind, walk-reads-rows, a-leaf-is-found, found-ends-inside}
 use Rattle.walk.proofs.Finding.{walks-on}
 
 -- a walk of the file came to this row
@@ -70,12 +70,12 @@ spaces-there f at l e =
 -- where walks for k leaves and more find these rows, the walk for k leaves comes to the first, and so on
 module _ (f : List ℕ) (small : length f ≤ largestFile) where
   finds-from : (rs : List Row) (from k : ℕ) → walkFrom One f from 0 ≡ walkAt One f 0 k
-      → ((j : ℕ) → andThen (walkAt One f 0 (k + j)) valueAtLeaf ≡ nthRow rs j) → Finds f (walkFrom One f from 0) rs
+      → ((j : ℕ) → andThen (walkAt One f 0 (k + j)) rowAtLeaf ≡ mapped asWalked (nth rs j)) → Finds f (walkFrom One f from 0) rs
   finds-from [] from k here rows = tt
   finds-from (r ∷ rs) from k here rows =
-      let (x, walked, value) = first-answered (walkAt One f 0 k) valueAtLeaf (valueOf r) (ap (λ (j : ℕ). andThen (walkAt One f 0 j) valueAtLeaf) (sym (add-zero k)) ∙ rows 0) in
-      let place : x .place ≡ r .label = omega (arith, ap (λ (v : Part). v .place) (answer-injective value)) in
-      let size : x .label .length ≡ r .size = ap (λ (v : Part). v .count) (answer-injective value) in
+      let (x, walked, value) = first-answered (walkAt One f 0 k) rowAtLeaf (asWalked r) (ap (λ (j : ℕ). andThen (walkAt One f 0 j) rowAtLeaf) (sym (add-zero k)) ∙ rows 0) in
+      let place : x .place ≡ r .label = ap (λ (v : Shown). v .address .label) (answer-injective value) in
+      let size : x .label .length ≡ r .size = ap (λ (v : Shown). v .part .count) (answer-injective value) in
       let inside = found-ends-inside One f 0 k x walked in
       let read = a-leaf-is-found One f 0 k x walked .reads in
       let end : valueAt r + r .size ≡ behind x = omega (arith, place, size) in (
@@ -91,11 +91,11 @@ module _ (f : List ℕ) (small : length f ≤ largestFile) where
         },
         finds-from rs (valueAt r + r .size) (k + 1)
             (ap (λ (p : ℕ). walkFrom One f p 0) end ∙ walks-on One f k x small walked)
-            (λ j. ap (λ (m : ℕ). andThen (walkAt One f 0 m) valueAtLeaf) {x = k + 1 + j} {y = k + suc j} (omega arith) ∙ rows (suc j)),
+            (λ j. ap (λ (m : ℕ). andThen (walkAt One f 0 m) rowAtLeaf) {x = k + 1 + j} {y = k + suc j} (omega arith) ∙ rows (suc j)),
       )
 
   -- the theorem: from the first byte of an accepted file, row after row
   pub finds-rows : (rows : List Row) → scan One f ≡ answer rows → Finds f (walkFrom One f 0 0) rows
   finds-rows rows e =
       finds-from rows 0 0 (place-inside One f 0 0 small (omega arith))
-      (λ j. ap (λ (k : ℕ). andThen (walkAt One f 0 k) valueAtLeaf) {x = 0 + j} {y = j} (omega arith) ∙ walk-reads-rows One f rows e j)
+      (λ j. ap (λ (k : ℕ). andThen (walkAt One f 0 k) rowAtLeaf) {x = 0 + j} {y = j} (omega arith) ∙ walk-reads-rows One f rows e j)

@@ -8,10 +8,10 @@ use lib.ListN.{length}
 use Rattle.answer.specs.Outcome.{Outcome, answer, refuse, mapped}
 use Rattle.answer.specs.Size.{largestFile}
 use Rattle.answer.specs.Window.{bytesAt}
-use Rattle.answer.specs.declared.Part.{Part}
+use Rattle.answer.specs.declared.Shown.{Shown}
 use Rattle.answer.proofs.Outcomes.{mapped-answer}
 use Rattle.label.specs.declared.Versions.{Versions}
-use Rattle.sfdu.specs.Row.{Row, valueOf}
+use Rattle.sfdu.specs.Row.{Row, whole}
 use Rattle.sfdu.specs.Forest.{Forest, leaves}
 use Rattle.sfdu.specs.Check.{rowsOfFile, checkLabelled}
 use Rattle.sfdu.proofs.Exact.{DividesFile, accepted-exactly, only-one-forest}
@@ -34,35 +34,35 @@ module _ (v : Versions) (f : List ℕ) where
   by-grammar : (F : Forest) → Divides (Labelled v) f F → DividesFile v f (leaves 1 (λ at. at) 0 F) F
   by-grammar F d = record { bytes = d .bytes; valid = d .sound; rows-are = refl }
 
-  labelled-exactly : (rows : List Part)
+  labelled-exactly : (rows : List Shown)
       → (rowParts (Labelled v) f ≡ answer rows) ↔ ((length f ≤ largestFile) × ((F : Forest) × Divides (Labelled v) f F × (rowsIn (Labelled v) F ≡ rows)))
   unfolding rowParts
   labelled-exactly rows = (
     (λ e.
-        let (rs, found, is) = mapped-answer (map valueOf) (rowsOfFile v f) rows e in
+        let (rs, found, is) = mapped-answer (map whole) (rowsOfFile v f) rows e in
         let (small, (F, d)) = accepted-exactly v f rs .0 found in
-        (small, (F, record { bytes = d .bytes; sound = d .valid }, ap (map valueOf) (d .rows-are) ∙ is))),
+        (small, (F, record { bytes = d .bytes; sound = d .valid }, ap (map whole) (d .rows-are) ∙ is))),
     (λ q.
         let (F, d, is) = q .1 in
-        ap (mapped (map valueOf)) (accepted-exactly v f (leaves 1 (λ at. at) 0 F) .1 (q .0, (F, by-grammar F d))) ∙ ap answer is),
+        ap (mapped (map whole)) (accepted-exactly v f (leaves 1 (λ at. at) 0 F) .1 (q .0, (F, by-grammar F d))) ∙ ap answer is),
   )
 
-map-of-map : (f : List ℕ) (rows : List Row) → map (λ (p : Part). bytesAt f (p .place) (p .count)) (map valueOf rows) ≡ map (rowBytes f) rows
+map-of-map : (f : List ℕ) (rows : List Row) → map (λ (p : Shown). bytesAt f (p .part .place) (p .part .count)) (map whole rows) ≡ map (rowBytes f) rows
 map-of-map f [] = refl
 map-of-map f (r ∷ rs) = ap (λ (xs : List (List ℕ)). rowBytes f r ∷ xs) (map-of-map f rs)
 
-length-of-map : (rows : List Row) → length (map valueOf rows) ≡ length rows
+length-of-map : (rows : List Row) → length (map whole rows) ≡ length rows
 length-of-map [] = refl
 length-of-map (r ∷ rs) = ap suc (length-of-map rs)
 
-labelled-counts : (o : Outcome (List Row)) → mapped length o ≡ mapped length (mapped (map valueOf) o)
+labelled-counts : (o : Outcome (List Row)) → mapped length o ≡ mapped length (mapped (map whole) o)
 labelled-counts (answer rows) = ap answer (sym (length-of-map rows))
 labelled-counts (refuse n p) = refl
 
 -- ---- demand 2
 
 -- the rows are those of a division, from the same said of its bytes and its pieces apart
-divided-exactly-from : (kind : Kind) (f : List ℕ) (rows : List Part)
+divided-exactly-from : (kind : Kind) (f : List ℕ) (rows : List Shown)
     → (rowParts kind f ≡ answer rows)
     ↔ ((length f ≤ largestFile) × ((d : Division kind) × Sound kind d × (together kind d ≡ f) × (rowsIn kind d ≡ rows)))
     → (rowParts kind f ≡ answer rows) ↔ ((length f ≤ largestFile) × ((d : Division kind) × Divides kind f d × (rowsIn kind d ≡ rows)))
@@ -77,7 +77,7 @@ divided-exactly-from kind f rows exactly = (
 
 -- what is accepted, from what the rows are and that the check counts them
 accepted-exactly-from : (kind : Kind) (f : List ℕ)
-    → ((rows : List Part) → (rowParts kind f ≡ answer rows) ↔ ((length f ≤ largestFile) × ((d : Division kind) × Divides kind f d × (rowsIn kind d ≡ rows))))
+    → ((rows : List Shown) → (rowParts kind f ≡ answer rows) ↔ ((length f ≤ largestFile) × ((d : Division kind) × Divides kind f d × (rowsIn kind d ≡ rows))))
     → checkFile kind f ≡ mapped length (rowParts kind f)
     → (n : ℕ)
     → (checkFile kind f ≡ answer n) ↔ ((length f ≤ largestFile) × ((d : Division kind) × Divides kind f d × (length (rowsIn kind d) ≡ n)))

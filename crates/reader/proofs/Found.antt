@@ -1,17 +1,20 @@
 -- Rows that were found lie inside the file.
 use Prim.Native.Nat.{ℕ, _+_, _≤_, _<_}
-use mathlib.Core.Path.{_≡_, _∙_, sym, subst}
+use mathlib.Core.Path.{_≡_, _∙_, sym, ap, subst}
 use mathlib.Core.List.{List}
 use lib.ListN.{length}
 use lib.Dec.{leb}
-use Rattle.answer.specs.Outcome.{answer, andThen}
+use Rattle.answer.specs.Outcome.{answer, andThen, mapped}
+use Rattle.answer.specs.Nth.{nth}
+use Rattle.answer.specs.Address.{withoutDepth}
 use Rattle.answer.specs.Size.{largestFile}
-use Rattle.answer.specs.declared.Part.{Part}
+use Rattle.answer.specs.declared.Shown.{Shown}
 use Rattle.answer.proofs.Outcomes.{first-answered, answer-injective, passed}
 use Rattle.label.specs.declared.Versions.{Versions}
+use Rattle.sfdu.specs.Row.{whole}
 use Rattle.sfdu.specs.Check.{rowsOfFile}
-use Rattle.walk.specs.Walk.{walkFrom}
-use Rattle.walk.specs.Find as labelled
+use Rattle.sfdu.specs.Find as labelled
+use Rattle.walk.specs.Walk.{rowAtLeaf, walkFrom}
 use Rattle.walk.proofs.Finding.{walk-from-inside, walk-finds-the-row}
 use Rattle.walk.proofs.WalkReads.{found-ends-inside}
 use Rattle.row_index.specs.Jump.{entryFor}
@@ -29,27 +32,27 @@ use Rattle.reader.specs.declared.Kind.the-variants.{Labelled, Waveform, 
 use Rattle.reader.specs.Read.{findRow, jumpTo}
 
 -- the value that a walk came to ends inside the file
-walked-inside : (v : Versions) (f : List ℕ) (from k : ℕ) (p : Part) → andThen (walkFrom v f from k) labelled.valueAtLeaf ≡ answer p → p .place + p .count ≤ length f
+walked-inside : (v : Versions) (f : List ℕ) (from k : ℕ) (p : Shown) → andThen (walkFrom v f from k) rowAtLeaf ≡ answer p → p .part .place + p .part .count ≤ length f
 walked-inside v f from k p e =
-    let q = first-answered (walkFrom v f from k) labelled.valueAtLeaf p e in
+    let q = first-answered (walkFrom v f from k) rowAtLeaf p e in
     let h = found-ends-inside v f from k (q .0) (walk-from-inside v f from k (q .0) (q .1)) in
-    subst (λ (r : Part). r .place + r .count ≤ length f) (answer-injective (q .2)) h
+    subst (λ (r : Shown). r .part .place + r .part .count ≤ length f) (answer-injective (q .2)) h
 
 -- a row that reading found
-pub row-inside : (kind : Kind) (f : List ℕ) (k : ℕ) (p : Part) → findRow kind f k ≡ answer p → p .place + p .count ≤ length f
+pub row-inside : (kind : Kind) (f : List ℕ) (k : ℕ) (p : Shown) → findRow kind f k ≡ answer p → p .part .place + p .part .count ≤ length f
 unfolding findRow labelled.findRow
 row-inside (Labelled v) f k p e =
-    let q = first-answered (rowsOfFile v f) (λ rows. labelled.nthRow rows k) p e in
-    walked-inside v f 0 k p (walk-finds-the-row v f (q .0) (q .1) k ∙ q .2)
+    let (rows, accepted, is) = first-answered (rowsOfFile v f) (λ rs. mapped whole (nth rs k)) p e in
+    walked-inside v f 0 k (withoutDepth p) (walk-finds-the-row v f rows accepted k ∙ ap (mapped withoutDepth) e)
 row-inside Waveform f k p e = fixed-rows.row-inside waveform waveform-rows.takes-bytes f k p e
 row-inside (Bursts first) f k p e = fixed-rows.row-inside (bursts first) (burst-rows.takes-bytes first) f k p e
 
 -- a row of one size that the jump came to
-jump-inside : (s : Shape) → 0 < step s → (f : List ℕ) (k : ℕ) (p : Part) → fixed.jumpTo s f k ≡ answer p → p .place + p .count ≤ length f
+jump-inside : (s : Shape) → 0 < step s → (f : List ℕ) (k : ℕ) (p : Shown) → fixed.jumpTo s f k ≡ answer p → p .part .place + p .part .count ≤ length f
 jump-inside s some f k p e = fixed-rows.row-inside s some f k p (sym (fixed-jump.jump-is-read s some f k) ∙ e)
 
 -- and one that the jump came to, by any list
-pub jumped-inside : (kind : Kind) (f xs : List ℕ) (k : ℕ) (p : Part) → jumpTo kind f xs k ≡ answer p → p .place + p .count ≤ length f
+pub jumped-inside : (kind : Kind) (f xs : List ℕ) (k : ℕ) (p : Shown) → jumpTo kind f xs k ≡ answer p → p .part .place + p .part .count ≤ length f
 unfolding jumpTo labelled-jump.jumpTo
 jumped-inside (Labelled v) f xs k p e =
     let q = passed 0 (leb (length f) largestFile) 14 _ p e .1 in

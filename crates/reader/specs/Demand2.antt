@@ -9,8 +9,8 @@ use lib.ListN.{length}
 use Rattle.answer.specs.Outcome.{answer, mapped}
 use Rattle.answer.specs.Size.{largestFile}
 use Rattle.answer.specs.Window.{bytesAt}
-use Rattle.answer.specs.declared.Part.{Part}
-use Rattle.sfdu.specs.Row.{valueOf}
+use Rattle.answer.specs.declared.Shown.{Shown}
+use Rattle.sfdu.specs.Row.{whole}
 use Rattle.sfdu.specs.Forest.{Forest, encode, Valid, leaves, values}
 use Rattle.fixed_rows.specs.Rows as fixed
 use Rattle.waveform.specs.Rows.{waveform}
@@ -39,9 +39,9 @@ Sound (Labelled versions) F = Valid versions 8 F
 Sound Waveform d = fixed.IsDivision waveform d
 Sound (Bursts first) d = fixed.IsDivision (bursts first) d
 
--- its rows, each a place and a count
-abbrev pub rowsIn : (kind : Kind) → Division kind → List Part
-rowsIn (Labelled versions) F = map valueOf (leaves 1 (λ at. at) 0 F)
+-- its rows, each a place, a count and an address
+abbrev pub rowsIn : (kind : Kind) → Division kind → List Shown
+rowsIn (Labelled versions) F = map whole (leaves 1 (λ at. at) 0 F)
 rowsIn Waveform d = fixed.rowsIn waveform d
 rowsIn (Bursts first) d = fixed.rowsIn (bursts first) d
 
@@ -61,11 +61,11 @@ pub record Demand2 (kind : Kind) (f : List ℕ) : Type 0 where
   pub accepted : (n : ℕ)
       → (checkFile kind f ≡ answer n) ↔ ((length f ≤ largestFile) × ((d : Division kind) × Divides kind f d × (length (rowsIn kind d) ≡ n)))
   -- the rows are those of the division
-  pub rows-are : (rows : List Part)
+  pub rows-are : (rows : List Shown)
       → (rowParts kind f ≡ answer rows) ↔ ((length f ≤ largestFile) × ((d : Division kind) × Divides kind f d × (rowsIn kind d ≡ rows)))
   -- the check counts these rows, and refuses where they cannot be had
   pub counts : checkFile kind f ≡ mapped length (rowParts kind f)
   -- there is one division only
   pub only-one : (d e : Division kind) → Divides kind f d → Divides kind f e → d ≡ e
   -- the bytes of the file at each row are that row's bytes
-  pub values-are : (d : Division kind) → Divides kind f d → map (λ (p : Part). bytesAt f (p .place) (p .count)) (rowsIn kind d) ≡ bytesIn kind d
+  pub values-are : (d : Division kind) → Divides kind f d → map (λ (r : Shown). bytesAt f (r .part .place) (r .part .count)) (rowsIn kind d) ≡ bytesIn kind d

@@ -8,6 +8,7 @@ use answer::Count;
 use answer::Part;
 use answer::Refusal;
 use answer::Show;
+use answer::Shown;
 use label::Versions;
 ghost use mathlib.Core.Path.{_≡_};
 ghost use mathlib.Core.List.{[]};
@@ -44,22 +45,26 @@ fn find_row(kind: Kind, file: &[u8], k: usize) -> Show
     ensures { λ r. ⌜ shown r ≡ findRow kind (now (file .entry)) k ⌝ }
 {
     match kind {
-        Kind::Labelled(versions) => walk::find_row(versions, file, k),
+        Kind::Labelled(versions) => sfdu::find_row(versions, file, k),
         Kind::Waveform => waveform::find_row(file, k),
         Kind::Bursts(first) => bursts::find_row(file, first, k),
     }
 }
 
-// The window of `c` bytes from byte `a` on of a row that was found, or 7.
+// The window of `c` bytes from byte `a` on of a row that was found, or 7. The row's address stays.
 fn window_in(row: Show, a: usize, c: usize) -> Show
-    requires { ⌜ ((p : Part) → shown row ≡ answer p → p .place + p .count ≤ 9223372036854775807) ⌝ }
+    requires { ⌜ ((s : Shown) → shown row ≡ answer s → s .part .place + s .part .count ≤ 9223372036854775807) ⌝ }
     ensures { λ r. ⌜ shown r ≡ andThen (shown row) (windowIn a c) ⌝ }
 {
     match row {
-        Show::Is(part) => {
-            if answer::window_fits(part.count, a, c) {
-                let place = part.place + a;
-                return Show::Is(Part { place, count: c });
+        Show::Is(found) => {
+            if answer::window_fits(found.part.count, a, c) {
+                let place = found.part.place + a;
+                let address = found.address;
+                return Show::Is(Shown {
+                    part: Part { place, count: c },
+                    address,
+                });
             }
             Show::Refused(Refusal::NoPart, 0)
         }
@@ -74,7 +79,7 @@ pub fn read_row(kind: Kind, file: &[u8], k: usize, a: usize, c: usize) -> Show
     window_in(find_row(kind, file, k), a, c)
 }
 
-// The window of row `k` of a labelled file, jumped to by the list.
+// The window of row `k` of a labelled file, jumped to by the list. The row's depth is absent.
 pub fn jump_labelled(
     versions: Versions,
     file: &[u8],
@@ -113,14 +118,14 @@ pub fn jump_row(kind: Kind, file: &[u8], list: &[u32], k: usize, a: usize, c: us
     }
 }
 
-// Going on: the first whole row from a place on. From 0, in bursts from the first record's place, it is
+// Going on: the first whole row from a place on, of a labelled file without its depth. From 0, in bursts from the first record's place, it is
 // row 0; from the end of one row's bytes, the next row. A strip of n rows is read so in time that grows
 // with the strip and not with the file.
 pub fn row_from(kind: Kind, file: &[u8], from: usize) -> Show
     ensures { λ r. ⌜ shown r ≡ rowFrom kind (now (file .entry)) from ⌝ }
 {
     match kind {
-        Kind::Labelled(versions) => walk::value_from(versions, file, from, 0),
+        Kind::Labelled(versions) => walk::row_from(versions, file, from, 0),
         Kind::Waveform => waveform::row_from(file, from),
         Kind::Bursts(first) => bursts::row_from(file, first, from),
     }

@@ -7,21 +7,22 @@ use mathlib.Core.Path.{_≡_, refl, _∙_, sym, ap, subst}
 use mathlib.Core.List.{List}
 use lib.ListN.{length, getD}
 use Rattle.label.specs.declared.Versions.{Versions}
-use Rattle.answer.specs.Outcome.{Outcome, answer, refuse, andThen}
-use Rattle.answer.specs.declared.Part.{Part}
+use Rattle.answer.specs.Outcome.{Outcome, answer, refuse, andThen, mapped}
+use Rattle.answer.specs.Nth.{nth}
+use Rattle.answer.specs.declared.Shown.{Shown}
 use Rattle.answer.proofs.Outcomes.{first-answered, answer-injective}
+use Rattle.answer.proofs.Nths.{nth-is-there}
 use Rattle.sfdu.specs.Row.{Row}
 use Rattle.walk.specs.declared.Leaf.{Leaf}
 use Rattle.sfdu.specs.Check.{rowsOfFile}
-use Rattle.walk.specs.Walk.{walkFrom}
-use Rattle.walk.specs.Find.{nthRow, valueAtLeaf}
+use Rattle.walk.specs.Walk.{rowAtLeaf, walkFrom}
 use Rattle.sfdu.proofs.Checking.{accepted-says}
 use Rattle.walk.proofs.Finding.{walked-value-fits}
 use Rattle.walk.proofs.WalkLoop.{place-inside}
-use Rattle.walk.proofs.WalkReads.{walkAt, walk-reads-rows, resume, found-ends-inside}
+use Rattle.walk.proofs.WalkReads.{asWalked, walkAt, walk-reads-rows, resume, found-ends-inside}
 use Rattle.row_index.specs.Index.{indexOf}
 use Rattle.row_index.specs.Private.{known, theIndex, placeFound}
-use Rattle.row_index.proofs.Sixteenths.{row-is-there, entry-is-a-row, one-entry-a-group}
+use Rattle.row_index.proofs.Sixteenths.{entry-is-a-row, one-entry-a-group}
 
 -- which versions of the label are allowed
 module _ (versions : Versions) where
@@ -42,13 +43,13 @@ module _ (versions : Versions) where
   module _ (f : List ℕ) (rows : List Row) (accepted : rowsOfFile versions f ≡ answer rows) (i : ℕ) (there : i < length (indexOf rows)) where
     pub leaf-of-entry : (x : Leaf) × (walkAt versions f 0 (16 * i) ≡ answer x) × (x .place ≡ getD (indexOf rows) i 0)
     leaf-of-entry =
-        let (p, row) = row-is-there rows (16 * i) (omega (arith, one-entry-a-group rows)) in
-        let (x, walks, value) = first-answered (walkAt versions f 0 (16 * i)) valueAtLeaf p
-        (walk-reads-rows versions f rows (accepted-says versions f rows accepted .1) (16 * i) ∙ row) in
-        let place : x .place + 20 ≡ p .place = ap (λ (q : Part). q .place) (answer-injective value) in
-        let entry : getD (indexOf rows) i 0 + 20 ≡ p .place =
-        entry-is-a-row rows 0 i p (ap (nthRow rows) {x = 0 + 16 * i} {y = 16 * i} (omega arith) ∙ row) in
-        (x, walks, omega (arith, place, entry))
+        let (r, row) = nth-is-there rows (16 * i) (omega (arith, one-entry-a-group rows)) in
+        let (x, walks, value) = first-answered (walkAt versions f 0 (16 * i)) rowAtLeaf (asWalked r)
+        (walk-reads-rows versions f rows (accepted-says versions f rows accepted .1) (16 * i) ∙ ap (mapped asWalked) row) in
+        let place : x .place ≡ r .label = ap (λ (q : Shown). q .address .label) (answer-injective value) in
+        let entry : getD (indexOf rows) i 0 ≡ r .label =
+        entry-is-a-row rows 0 i r (ap (nth rows) {x = 0 + 16 * i} {y = 16 * i} (omega arith) ∙ row) in
+        (x, walks, place ∙ sym entry)
 
   -- the place that a walk came to lies in the file
   pub place-found-inside : (f : List ℕ) (from k : ℕ) → placeFound (walkFrom versions f from k) ≤ length f

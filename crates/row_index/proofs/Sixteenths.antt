@@ -1,34 +1,22 @@
 -- Every sixteenth row: which row stands behind an entry of the index, and how many entries there are.
-use Prim.Native.Nat.{ℕ, zero, suc, _+_, _-_, _*_, _/_, _≤_, _<_}
-use native.Mathlib.Nat.{not-suc-le-zero, suc-add}
+use Prim.Native.Nat.{ℕ, zero, suc, _+_, _-_, _*_, _/_, _≤_}
+use native.Mathlib.Nat.{suc-add}
 use native.Mathlib.Omega.{arith}
 use mathlib.Core.Path.{_≡_, refl, _∙_, sym, ap}
 use mathlib.Core.List.{List, [], _∷_}
 use lib.ListN.{length, getD}
-use Rattle.answer.specs.Outcome.{answer, refuse}
-use Rattle.answer.specs.declared.Part.{Part}
+use Rattle.answer.specs.Outcome.{answer}
+use Rattle.answer.specs.Nth.{nth}
 use Rattle.answer.proofs.Outcomes.{answer-injective, answer-is-no-refusal}
-use Rattle.sfdu.specs.Row.{Row, valueOf}
-use Rattle.walk.specs.Find.{nthRow}
+use Rattle.sfdu.specs.Row.{Row}
 use Rattle.row_index.specs.Index.{every}
 
--- a row with a number below their count is there, and else there is none
-pub row-is-there : (rows : List Row) (k : ℕ) → k < length rows → (p : Part) × (nthRow rows k ≡ answer p)
-row-is-there [] k h = absurd (not-suc-le-zero h)
-row-is-there (r ∷ rs) zero h = (valueOf r, refl)
-row-is-there (r ∷ rs) (suc k) h = row-is-there rs k (omega arith)
-
-pub no-such-row : (rows : List Row) (k : ℕ) → length rows ≤ k → nthRow rows k ≡ refuse 6 0
-no-such-row [] k h = refl
-no-such-row (r ∷ rs) zero h = absurd (omega arith)
-no-such-row (r ∷ rs) (suc k) h = no-such-row rs k (omega arith)
-
 -- after n rows that are passed, entry i is the place of the label of row n + 16 i
-pub entry-is-a-row : (rows : List Row) (n i : ℕ) (p : Part) → nthRow rows (n + 16 * i) ≡ answer p → getD (every n rows) i 0 + 20 ≡ p .place
+pub entry-is-a-row : (rows : List Row) (n i : ℕ) (r : Row) → nth rows (n + 16 * i) ≡ answer r → getD (every n rows) i 0 ≡ r .label
 entry-is-a-row [] n i p e = absurd (answer-is-no-refusal (sym e))
-entry-is-a-row (r ∷ rs) (suc n) i p e = entry-is-a-row rs n i p (ap (nthRow (r ∷ rs)) (sym (suc-add n (16 * i))) ∙ e)
-entry-is-a-row (r ∷ rs) zero zero p e = ap (λ (q : Part). q .place) (answer-injective e)
-entry-is-a-row (r ∷ rs) zero (suc i) p e = entry-is-a-row rs 15 i p (ap (nthRow (r ∷ rs)) {x = suc (15 + 16 * i)} {y = 0 + 16 * suc i} (omega arith) ∙ e)
+entry-is-a-row (r ∷ rs) (suc n) i p e = entry-is-a-row rs n i p (ap (nth (r ∷ rs)) (sym (suc-add n (16 * i))) ∙ e)
+entry-is-a-row (r ∷ rs) zero zero p e = ap (λ (q : Row). q .label) (answer-injective e)
+entry-is-a-row (r ∷ rs) zero (suc i) p e = entry-is-a-row rs 15 i p (ap (nth (r ∷ rs)) {x = suc (15 + 16 * i)} {y = 0 + 16 * suc i} (omega arith) ∙ e)
 
 -- how many entries: one for each started group of sixteen
 groups-after : (rows : List Row) (n : ℕ) → n ≤ 15 → length (every n rows) ≡ (length rows + 15 - n) / 16

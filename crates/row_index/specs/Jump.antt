@@ -6,10 +6,9 @@ use lib.ListN.{length, getD}
 use lib.Dec.{ltb, leb}
 use Rattle.answer.specs.Outcome.{Outcome, answer, need, andThen}
 use Rattle.answer.specs.Size.{ofFile}
-use Rattle.answer.specs.declared.Part.{Part}
+use Rattle.answer.specs.declared.Shown.{Shown}
 use Rattle.label.specs.declared.Versions.{Versions}
-use Rattle.walk.specs.Walk.{walkFrom}
-use Rattle.walk.specs.Find.{valueAtLeaf}
+use Rattle.walk.specs.Walk.{rowAtLeaf, walkFrom}
 use Rattle.row_index.specs.Index.{groupSize}
 
 -- the entry of row k's group of sixteen: 6 where it is missing, 11 where it is beyond the file's length
@@ -18,8 +17,8 @@ entryFor f xs k =
     need (ltb (k / groupSize) (length xs)) 6
     (need (leb (getD xs (k / groupSize) 0) (length f)) 11 (answer (getD xs (k / groupSize) 0)))
 
--- the row's value, where these versions of the label are allowed
-unfoldable pub jumpTo : Versions → List ℕ → List ℕ → ℕ → Outcome Part
+-- the row, whole, where these versions of the label are allowed
+unfoldable pub jumpTo : Versions → List ℕ → List ℕ → ℕ → Outcome Shown
 jumpTo versions f xs k =
     ofFile f
-    (andThen (entryFor f xs k) (λ entry. andThen (walkFrom versions f entry (k % groupSize)) valueAtLeaf))
+    (andThen (entryFor f xs k) (λ entry. andThen (walkFrom versions f entry (k % groupSize)) rowAtLeaf))

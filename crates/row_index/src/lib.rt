@@ -40,7 +40,7 @@ pub enum Verified {
     Refused(Refusal, usize),
 }
 
-// The value of row k by the list: the entry of its group of sixteen, and then a walk.
+// Row k, whole, by the list: the entry of its group of sixteen, and then a walk. Its depth is absent.
 pub fn jump_to(versions: Versions, file: &[u8], list: &[u32], k: usize) -> Show
     ensures { λ r. ⌜ shown r ≡ jumpTo versions (now (file .entry)) (now (list .entry)) k ⌝ }
 {
@@ -55,7 +55,7 @@ pub fn jump_to(versions: Versions, file: &[u8], list: &[u32], k: usize) -> Show
     if file.len() < entry {
         return Show::Refused(Refusal::BadIndex, 0);
     }
-    walk::value_from(versions, file, entry, k % GROUP)
+    walk::row_from(versions, file, entry, k % GROUP)
 }
 
 // The place of the label that a walk comes to; 0 where it comes to none.

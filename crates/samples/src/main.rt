@@ -6,6 +6,7 @@
 // document 01's cases that are not proved, 6 (depths 8 and 9) and 9 (windows at the end of a waveform
 // row).
 use answer::Count;
+use answer::Nesting;
 use answer::Refusal;
 use answer::Show;
 use label::Versions;
@@ -97,12 +98,27 @@ fn print_opening(name: &[u8]) {
     print(b"\n");
 }
 
-// Prints the place and the count of a part that is shown, or the refusal.
+// Prints a row's depth and its outermost object's place, or that they are absent.
+fn print_nesting(nesting: Nesting) {
+    match nesting {
+        Nesting::Known(depth, outermost) => {
+            print_number(depth);
+            print_number(outermost);
+        }
+        Nesting::Absent => print(b" absent absent"),
+    }
+}
+
+// Prints what is shown of a row, place, count and address, or the refusal.
 fn print_shown(shown: Show) {
     match shown {
-        Show::Is(part) => {
-            print_number(part.place);
-            print_number(part.count);
+        Show::Is(row) => {
+            print_number(row.part.place);
+            print_number(row.part.count);
+            let address = row.address;
+            print_number(address.label);
+            let nesting = address.nesting;
+            print_nesting(nesting);
         }
         Show::Refused(why, place) => print_refusal(why, place),
     }

@@ -1,4 +1,4 @@
--- The check of a file: too big, or the scan of all of it.
+-- The check of a file, and reading a row: too big, or the scan of all of it.
 use Prim.Native.Nat.{ℕ, _≤_, _<_}
 use mathlib.Core.Path.{_≡_, _∙_, sym, ap}
 use mathlib.Core.List.{List}
@@ -6,13 +6,16 @@ use lib.ListN.{length}
 use borrow.Author.Tests.{le-leb, lt-leb, leb-true}
 use lib.Dec.{leb}
 use Rattle.label.specs.declared.Versions.{Versions}
-use Rattle.answer.specs.Outcome.{Outcome, answer, refuse}
+use Rattle.answer.specs.Outcome.{Outcome, answer, refuse, andThen, mapped}
+use Rattle.answer.specs.Nth.{nth}
 use Rattle.answer.specs.Size.{largestFile}
-use Rattle.answer.proofs.Outcomes.{passed}
-use Rattle.sfdu.specs.Row.{Row}
+use Rattle.answer.proofs.Outcomes.{passed, after-answer, after-refusal}
+use Rattle.sfdu.specs.Row.{Row, whole}
 use Rattle.sfdu.specs.Scan.{scan}
 use Rattle.sfdu.specs.Check.{counting, rowsOfFile, checkLabelled}
-use Rattle.sfdu.specs.Private.{Checked}
+use Rattle.sfdu.specs.Find.{findRow}
+use Rattle.sfdu.specs.Private.{nothingSeen, seeAll, Searched}
+use Rattle.sfdu.specs.declared.Seen.{Seen}
 
 -- which versions of the label are allowed
 module _ (versions : Versions) where
@@ -28,10 +31,20 @@ module _ (versions : Versions) where
   unfolding checkLabelled
   too-big-to-check f h = ap counting (too-big f h)
 
-  -- the nested check of the whole file is the check
-  pub whole-file : (f : List ℕ) (r : Outcome ℕ) → length f ≤ largestFile → Checked versions f 0 8 r → r ≡ checkLabelled versions f
-  unfolding checkLabelled scan
-  whole-file f r h checked = checked .counts 1 (λ at. at) ∙ ap counting (sym (not-too-big f h))
+  pub too-big-to-read : (f : List ℕ) (k : ℕ) → largestFile < length f → findRow versions f k ≡ refuse 14 0
+  unfolding findRow
+  too-big-to-read f k h = after-refusal (rowsOfFile versions f) _ 14 0 (too-big f h)
+
+  -- the nested search of the whole file sees the file's rows
+  pub whole-file : (f : List ℕ) (k : ℕ) (r : Outcome Seen) → length f ≤ largestFile → Searched versions f 0 8 (λ at. at) k nothingSeen r
+      → r ≡ mapped (seeAll k nothingSeen) (rowsOfFile versions f)
+  unfolding scan
+  whole-file f k r h searched = searched .sees ∙ ap (mapped (seeAll k nothingSeen)) (sym (not-too-big f h))
+
+  -- a file whose rows are known: reading row k is taking the k-th of them
+  pub reads-the-row : (f : List ℕ) (rows : List Row) → rowsOfFile versions f ≡ answer rows → (k : ℕ) → findRow versions f k ≡ mapped whole (nth rows k)
+  unfolding findRow
+  reads-the-row f rows e k = after-answer (rowsOfFile versions f) (λ rs. mapped whole (nth rs k)) rows e
 
   -- an accepted file is small enough, and its rows are the scan's
   pub accepted-says : (f : List ℕ) (rows : List Row) → rowsOfFile versions f ≡ answer rows → (length f ≤ largestFile) × (scan versions f ≡ answer rows)

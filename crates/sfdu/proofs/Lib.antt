@@ -1,6 +1,7 @@
 pub mod Steps
 pub mod ForestOf
 pub mod Forests
+pub mod Seeing
 pub mod Nested
 pub mod Checking
 pub mod Exact

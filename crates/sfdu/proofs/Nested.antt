@@ -1,22 +1,23 @@
--- The nested check, in its loop's own terms. `Sofar` is the loop's invariant: what was passed holds so many rows, and the
--- scan of the whole part is the scan of what is left with those rows found. Each arm of the loop is one law.
+-- The nested search, in its loop's own terms. `Sofar` is the loop's invariant: what is seen is what was seen before and the rows of
+-- what was passed, and the scan of the whole part is the scan of what is left with those rows found. Each arm of the loop is one law.
 use Prim.Native.Nat.{ℕ, zero, suc, _+_, _-_, _≤_, _<_}
 use native.Mathlib.Nat.{not-suc-le-zero}
 use native.Mathlib.Omega.{arith}
-use mathlib.Core.Path.{_≡_, refl, _∙_, sym, ap, ap₂}
+use mathlib.Core.Path.{_≡_, refl, _∙_, sym, ap, ap₂, subst}
 use mathlib.Core.Bool.{Bool, true, false}
 use mathlib.Core.List.{List, [], _∷_, _++_}
-use lib.ListN.{length, take, drop, length-append, length-drop, drop-of-length-le}
+use lib.ListN.{length, take, drop, length-drop, drop-of-length-le}
 use lib.Seq.{drop-drop, length-take-le}
-use Rattle.answer.specs.Outcome.{Outcome, answer, refuse, andThen}
+use Rattle.answer.specs.Outcome.{Outcome, answer, refuse, andThen, mapped}
 use Rattle.answer.proofs.Outcomes.{answer-injective, answer-is-no-refusal, refused-first, mapped-answer}
 use Rattle.label.specs.declared.Versions.{Versions}
 use Rattle.label.specs.declared.Label.{Label}
 use Rattle.sfdu.specs.Row.{Row}
 use Rattle.sfdu.specs.Scan.{Inside, object, rowsOf, level, objects}
-use Rattle.sfdu.specs.Check.{counting}
-use Rattle.sfdu.specs.Private.{ObjectAt, Checked}
+use Rattle.sfdu.specs.Private.{ObjectAt, seeRow, seeAll, Searched}
+use Rattle.sfdu.specs.declared.Seen.{Seen}
 use Rattle.sfdu.proofs.Steps.{at-the-end, bad-object, one-object}
+use Rattle.sfdu.proofs.Seeing.{seen-in-turn}
 
 -- which versions of the label are allowed
 module _ (versions : Versions) where
@@ -46,63 +47,73 @@ module _ (versions : Versions) where
   too-deep depth outermost at [] h = absurd (not-suc-le-zero h)
   too-deep depth outermost at (b ∷ bs) h = refl
 
-  pub record Sofar (part : List ℕ) (base left at rows : ℕ) : Type 0 where
-    pub within : at ≤ length part
-    pub few : rows ≤ at
-    pub scanned : (depth : ℕ) (outermost : ℕ → ℕ) → (found : List Row) × (length found ≡ rows)
-        × (objects versions left depth outermost base part ≡ level versions (inner (left - 1) depth) depth outermost (base + at) found 0 (drop at part))
+  -- the part stands at depth 9 - left; what is inside its objects stands one deeper
+  module _ (part : List ℕ) (base left : ℕ) (outermost : ℕ → ℕ) (k : ℕ) (earlier : Seen) where
+    abbrev siblings : ℕ → List Row → List ℕ → Outcome (List Row)
+    siblings at found s = level versions (inner (left - 1) (9 - left)) (9 - left) outermost at found 0 s
 
-  module _ (part : List ℕ) (base left : ℕ) where
-    pub starts : 0 < left → Sofar part base left 0 0
-    starts h = record {
+    abbrev all : Outcome (List Row)
+    all = objects versions left (9 - left) outermost base part
+
+    pub record Sofar (at : ℕ) (seen : Seen) : Type 0 where
+      pub within : at ≤ length part
+      pub few : seen .rows ≤ base + at
+      pub found : List Row
+      pub scanned : all ≡ siblings (base + at) found (drop at part)
+      pub sees : seen ≡ seeAll k earlier found
+
+    -- a search that met a fault
+    fault-met : {n p : ℕ} → all ≡ refuse n p → Searched versions part base left outermost k earlier (refuse n p)
+    fault-met e = record {
+      sees = sym (ap (mapped (seeAll k earlier)) e);
+      few = λ s z. absurd (answer-is-no-refusal (sym z));
+    }
+
+    -- a search that came to the end
+    end-met : (found : List Row) (seen : Seen) → all ≡ answer found → seen ≡ seeAll k earlier found → seen .rows ≤ base + length part
+        → Searched versions part base left outermost k earlier (answer seen)
+    end-met found seen e is few = record {
+      sees = ap answer is ∙ sym (ap (mapped (seeAll k earlier)) e);
+      few = λ s z. subst (λ (t : Seen). t .rows ≤ base + length part) (answer-injective z) few;
+    }
+
+    pub starts : 0 < left → earlier .rows ≤ base → Sofar 0 earlier
+    starts h few = record {
       within = omega arith;
       few = omega arith;
-      scanned = λ depth outermost. (
-        [],
-        refl,
-        objects-are-a-level left depth outermost base part h
-            ∙ ap (λ (p : ℕ). level versions (inner (left - 1) depth) depth outermost p [] 0 part) (omega arith),
-      );
+      found = [];
+      scanned = objects-are-a-level left (9 - left) outermost base part h ∙ ap (λ (p : ℕ). siblings p [] part) (omega arith);
+      sees = refl;
     }
 
-    pub no-bytes : length part ≡ 0 → Checked versions part base left (answer 0)
-    no-bytes h = record {
-      counts = λ depth outermost. sym (ap counting (ap (objects versions left depth outermost base) (empty part h) ∙ nothing-to-scan left depth outermost base));
-      few = λ n e. omega (arith, answer-injective e);
-    }
+    pub no-bytes : length part ≡ 0 → earlier .rows ≤ base → Searched versions part base left outermost k earlier (answer earlier)
+    no-bytes h few =
+        end-met [] earlier (ap (objects versions left (9 - left) outermost base) (empty part h) ∙ nothing-to-scan left (9 - left) outermost base) refl (omega arith)
       where
         empty : (s : List ℕ) → length s ≡ 0 → s ≡ []
         empty [] e = refl
         empty (b ∷ bs) e = absurd (omega arith)
 
-    pub deepest : left ≡ 0 → (length part ≡ 0 → ⊥) → Checked versions part base left (refuse 5 base)
-    deepest none some = record {
-      counts = λ depth outermost.
-          sym (ap counting (ap (λ (k : ℕ). objects versions k depth outermost base part) none ∙ too-deep depth outermost base part (omega arith)));
-      few = λ n e. absurd (answer-is-no-refusal (sym e));
-    }
+    pub deepest : left ≡ 0 → (length part ≡ 0 → ⊥) → Searched versions part base left outermost k earlier (refuse 5 base)
+    deepest none some =
+        fault-met (ap (λ (j : ℕ). objects versions j (9 - left) outermost base part) none ∙ too-deep (9 - left) outermost base part (omega arith))
 
-    module _ (at rows : ℕ) (sofar : Sofar part base left at rows) where
-      pub ends : length part ≤ at → Checked versions part base left (answer rows)
-      ends h = record {
-        counts = λ depth outermost.
-            let (found, many, is) = sofar .scanned depth outermost in
-            sym (ap counting (is ∙ ap (level versions (inner (left - 1) depth) depth outermost (base + at) found 0) (drop-of-length-le part h)
-            ∙ at-the-end versions (inner (left - 1) depth) depth outermost (base + at) found 0) ∙ ap answer many);
-        few = λ n e. omega (arith, answer-injective e, sofar .few, sofar .within);
-      }
+    module _ (at : ℕ) (seen : Seen) (sofar : Sofar at seen) where
+      pub ends : length part ≤ at → Searched versions part base left outermost k earlier (answer seen)
+      ends h =
+          end-met (sofar .found) seen
+          (sofar .scanned ∙ ap (siblings (base + at) (sofar .found)) (drop-of-length-le part h)
+          ∙ at-the-end versions (inner (left - 1) (9 - left)) (9 - left) outermost (base + at) (sofar .found) 0)
+          (sofar .sees) (omega (arith, sofar .few, sofar .within))
 
       module _ (more : at < length part) where
         left-over : 0 < length (drop at part)
         left-over = omega (arith, length-drop at part)
 
-        pub faulty : (n p : ℕ) → object versions (drop at part) ≡ refuse n p → Checked versions part base left (refuse n (base + at))
-        faulty n p e = record {
-          counts = λ depth outermost.
-              let (found, many, is) = sofar .scanned depth outermost in
-              sym (ap counting (is ∙ bad-object versions (inner (left - 1) depth) depth outermost (base + at) found (drop at part) left-over n p e));
-          few = λ k z. absurd (answer-is-no-refusal (sym z));
-        }
+        pub faulty : (n p : ℕ) → object versions (drop at part) ≡ refuse n p → Searched versions part base left outermost k earlier (refuse n (base + at))
+        faulty n p e =
+            fault-met (sofar .scanned
+            ∙ bad-object versions (inner (left - 1) (9 - left)) (9 - left) outermost (base + at) (sofar .found) (drop at part) left-over n p e)
 
         module _ (opened : Bool) (end : ℕ) (o : ObjectAt versions part at opened end) where
           l : Label
@@ -123,25 +134,24 @@ module _ (versions : Versions) where
           value-size = length-take-le (end - (at + 20)) (drop (at + 20) part) (omega (arith, o .inside, length-drop (at + 20) part))
 
           -- what follows the object, once its rows are known
-          abbrev after : ℕ → (ℕ → ℕ) → List Row → List Row → Outcome (List Row)
-          after depth outermost found rs = level versions (inner (left - 1) depth) depth outermost (base + end) (found ++ rs) 0 (drop end part)
+          abbrev after : List Row → List Row → Outcome (List Row)
+          after found rs = siblings (base + end) (found ++ rs) (drop end part)
 
-          goes-on : (depth : ℕ) (outermost : ℕ → ℕ) (found : List Row)
-              → level versions (inner (left - 1) depth) depth outermost (base + at) found 0 (drop at part)
-              ≡ andThen (rowsOf (inner (left - 1) depth) depth (outermost (base + at)) (base + at) opened (l .length) value)
-              (after depth outermost found)
+          goes-on : (found : List Row)
+              → siblings (base + at) found (drop at part)
+              ≡ andThen (rowsOf (inner (left - 1) (9 - left)) (9 - left) (outermost (base + at)) (base + at) opened (l .length) value) (after found)
           unfolding l
-          goes-on depth outermost found =
-              one-object versions (inner (left - 1) depth) depth outermost (base + at) found (drop at part) left-over (o .label) (o .is)
+          goes-on found =
+              one-object versions (inner (left - 1) (9 - left)) (9 - left) outermost (base + at) found (drop at part) left-over (o .label) (o .is)
               ∙ ap (λ (t : Bool). andThen
-              (rowsOf (inner (left - 1) depth) depth (outermost (base + at)) (base + at) t (o .label .length) (take (o .label .length) (drop 20 (drop at part))))
-              (λ rs. level versions (inner (left - 1) depth) depth outermost (base + at + (20 + o .label .length)) (found ++ rs) 0 (drop (20 + o .label .length) (drop at part))))
+              (rowsOf (inner (left - 1) (9 - left)) (9 - left) (outermost (base + at)) (base + at) t (o .label .length) (take (o .label .length) (drop 20 (drop at part))))
+              (λ rs. siblings (base + at + (20 + o .label .length)) (found ++ rs) (drop (20 + o .label .length) (drop at part))))
               (o .class)
               ∙ ap₂ (λ (v : List ℕ) (f : List Row → Outcome (List Row)).
-              andThen (rowsOf (inner (left - 1) depth) depth (outermost (base + at)) (base + at) opened (o .label .length) v) f)
+              andThen (rowsOf (inner (left - 1) (9 - left)) (9 - left) (outermost (base + at)) (base + at) opened (o .label .length) v) f)
               value-is
-              (ap₂ (λ (p : ℕ) (s : List ℕ). λ (rs : List Row). level versions (inner (left - 1) depth) depth outermost p (found ++ rs) 0 s)
-              place-is (drop-drop (20 + o .label .length) at part ∙ ap (λ (k : ℕ). drop k part) end-is))
+              (ap₂ (λ (p : ℕ) (s : List ℕ). λ (rs : List Row). siblings p (found ++ rs) s)
+              place-is (drop-drop (20 + o .label .length) at part ∙ ap (λ (j : ℕ). drop j part) end-is))
             where
               place-is : base + at + (20 + o .label .length) ≡ base + end
               place-is = omega (arith, o .ends)
@@ -150,42 +160,60 @@ module _ (versions : Versions) where
               end-is = omega (arith, o .ends)
 
         -- a leaf is one row more
-        pub leaf-passed : (end : ℕ) → ObjectAt versions part at false end → Sofar part base left end (rows + 1)
+        pub leaf-passed : (end size top : ℕ) (r : Seen) → ObjectAt versions part at false end → size ≡ end - at - 20 → top ≡ outermost (base + at)
+            → r ≡ seeRow k seen (record { label = base + at; size = size; depth = 9 - left; outermost = top }) → Sofar end r
         unfolding l
-        leaf-passed end o = record {
+        leaf-passed end size top r o size-is top-is r-is = record {
           within = o .inside;
-          few = omega (arith, sofar .few, o .ends);
-          scanned = λ depth outermost.
-              let (found, many, is) = sofar .scanned depth outermost in
-              let row : Row = record { label = base + at; size = o .label .length; depth = depth; outermost = outermost (base + at) } in
-              (found ++ (row ∷ []), length-append found (row ∷ []) ∙ ap (λ (k : ℕ). k + 1) many, is ∙ goes-on false end o depth outermost found);
+          few = omega (arith, sofar .few, o .ends, ap (λ (s : Seen). s .rows) r-is);
+          found = sofar .found ++ (row ∷ []);
+          scanned =
+              sofar .scanned ∙ goes-on false end o (sofar .found)
+              ∙ ap₂ (λ (n t : ℕ). siblings (base + end) (sofar .found ++ (record { label = base + at; size = n; depth = 9 - left; outermost = t } ∷ [])) (drop end part))
+              length-is (sym top-is);
+          sees = r-is ∙ ap (λ (s : Seen). seeRow k s row) (sofar .sees) ∙ sym (seen-in-turn k (sofar .found) (row ∷ []) earlier);
         }
+          where
+            row : Row
+            row = record { label = base + at; size = size; depth = 9 - left; outermost = top }
+
+            length-is : o .label .length ≡ size
+            length-is = omega (arith, o .ends)
 
         -- an opened object is the rows inside it more, or what is wrong there
-        module _ (end : ℕ) (o : ObjectAt versions part at true end) where
-          inside-is : (depth : ℕ) (outermost : ℕ → ℕ) (found : List Row) (r : Outcome (List Row))
-              → objects versions (left - 1) (suc depth) (λ _. outermost (base + at)) (base + (at + 20)) (value true end o) ≡ r
-              → level versions (inner (left - 1) depth) depth outermost (base + at) found 0 (drop at part) ≡ andThen r (after true end o depth outermost found)
-          inside-is depth outermost found r e =
-              goes-on true end o depth outermost found
-              ∙ ap (λ (x : Outcome (List Row)). andThen x (after true end o depth outermost found))
-              (ap (λ (p : ℕ). objects versions (left - 1) (suc depth) (λ _. outermost (base + at)) p (value true end o)) {x = base + at + 20} {y = base + (at + 20)} (omega arith) ∙ e)
+        module _ (end top : ℕ) (o : ObjectAt versions part at true end) (top-is : top ≡ outermost (base + at)) (some : 0 < left) (most : left ≤ 8) where
+          abbrev Inner : Outcome Seen → Type 0
+          Inner r = Searched versions (value true end o) (base + (at + 20)) (left - 1) (λ _. top) k seen r
 
-          pub group-passed : (n : ℕ) → Checked versions (value true end o) (base + (at + 20)) (left - 1) (answer n) → Sofar part base left end (rows + n)
-          group-passed n checked = record {
-            within = o .inside;
-            few = omega (arith, sofar .few, checked .few n refl, value-size true end o, o .ends);
-            scanned = λ depth outermost.
-                let (found, many, is) = sofar .scanned depth outermost in
-                let (rs, rows-are, count-is) = mapped-answer length _ n (sym (checked .counts (suc depth) (λ _. outermost (base + at)))) in
-                (found ++ rs, length-append found rs ∙ ap₂ _+_ many count-is, is ∙ inside-is depth outermost found (answer rs) rows-are);
-          }
+          inside-is : (r : Outcome (List Row))
+              → objects versions (left - 1) (9 - (left - 1)) (λ _. top) (base + (at + 20)) (value true end o) ≡ r
+              → all ≡ andThen r (after true end o (sofar .found))
+          inside-is r e =
+              sofar .scanned ∙ goes-on true end o (sofar .found)
+              ∙ ap (λ (x : Outcome (List Row)). andThen x (after true end o (sofar .found)))
+              (ap₂ (λ (d p : ℕ). objects versions (left - 1) d (λ _. outermost (base + at)) p (value true end o)) deeper place-is
+              ∙ ap (λ (u : ℕ). objects versions (left - 1) (9 - (left - 1)) (λ _. u) (base + (at + 20)) (value true end o)) (sym top-is)
+              ∙ e)
+            where
+              deeper : suc (9 - left) ≡ 9 - (left - 1)
+              deeper = omega arith
 
-          pub group-faulty : (n p : ℕ) → Checked versions (value true end o) (base + (at + 20)) (left - 1) (refuse n p) → Checked versions part base left (refuse n p)
-          group-faulty n p checked = record {
-            counts = λ depth outermost.
-                let (found, many, is) = sofar .scanned depth outermost in
-                let fault = refused-first _ length (sym (checked .counts (suc depth) (λ _. outermost (base + at)))) in
-                sym (ap counting (is ∙ inside-is depth outermost found (refuse n p) fault));
-            few = λ k z. absurd (answer-is-no-refusal (sym z));
-          }
+              place-is : base + at + 20 ≡ base + (at + 20)
+              place-is = omega arith
+
+          few-inside : (s : Seen) → Inner (answer s) → s .rows ≤ base + end
+          few-inside s inner-seen = omega (arith, inner-seen .few s refl, value-size true end o, o .ends)
+
+          pub group-passed : (s : Seen) → Inner (answer s) → Sofar end s
+          group-passed s inner-seen =
+              let (rs, rows-are, is) = mapped-answer (seeAll k seen) _ s (sym (inner-seen .sees)) in
+              record {
+                within = o .inside;
+                few = few-inside s inner-seen;
+                found = sofar .found ++ rs;
+                scanned = inside-is (answer rs) rows-are;
+                sees = sym is ∙ ap (λ (t : Seen). seeAll k t rs) (sofar .sees) ∙ sym (seen-in-turn k (sofar .found) rs earlier);
+              }
+
+          pub group-faulty : (n p : ℕ) → Inner (refuse n p) → Searched versions part base left outermost k earlier (refuse n p)
+          group-faulty n p inner-seen = fault-met (inside-is (refuse n p) (refused-first _ (seeAll k seen) (sym (inner-seen .sees))))

@@ -2,4 +2,5 @@ pub mod Row
 pub mod Scan
 pub mod Forest
 pub mod Check
+pub mod Find
 pub mod Private

@@ -1,19 +1,52 @@
--- Cited only by promises of private functions: the object at a place of a part, and the nested check of a part.
-use Prim.Native.Nat.{ℕ, _+_, _≤_}
+-- Cited only by promises of private functions: the object at a place of a part, and the nested search of a part.
+use Prim.Native.Nat.{ℕ, _+_, _-_, _≤_}
 use mathlib.Core.Path.{_≡_}
 use mathlib.Core.Bool.{Bool, true, false}
-use mathlib.Core.List.{List}
+use mathlib.Core.List.{List, [], _∷_}
 use lib.ListN.{length, drop}
-use Rattle.answer.specs.Outcome.{Outcome, answer, refuse}
+use lib.Dec.{eqb}
+use Rattle.answer.specs.Outcome.{Outcome, answer, refuse, mapped}
 use Rattle.answer.specs.Refusal.{numberOf}
+use Rattle.answer.specs.declared.Shown.{Shown}
+use Rattle.answer.specs.declared.Nesting.the-variants.{Absent}
 use Rattle.label.specs.declared.Label.{Label}
 use Rattle.label.specs.declared.Versions.{Versions}
 use Rattle.label.specs.Head.{labelSize}
 use Rattle.label.specs.Opened.{isOpened}
+use Rattle.sfdu.specs.Row.{Row, whole}
 use Rattle.sfdu.specs.Scan.{object, objects}
-use Rattle.sfdu.specs.Check.{counting}
 use Rattle.sfdu.specs.declared.Object.{Object}
 use Rattle.sfdu.specs.declared.Object.the-variants.{Leaf, Group, Fault}
+use Rattle.sfdu.specs.declared.Outer.{Outer}
+use Rattle.sfdu.specs.declared.Outer.the-variants.{Itself, At}
+use Rattle.sfdu.specs.declared.Seen.{Seen}
+use Rattle.sfdu.specs.declared.Search.{Search}
+use Rattle.sfdu.specs.declared.Search.the-variants as search
+
+-- what the enum `Outer` says of an object at a place
+abbrev pub outermostBy : Outer → ℕ → ℕ
+outermostBy Itself = λ at. at
+outermostBy (At top) = λ _. top
+
+abbrev pub either : Bool → Shown → Shown → Shown
+either true x y = x
+either false x y = y
+
+-- what a search for row k has seen: before the first row, with one row more, and with these rows more
+abbrev pub nothingSeen : Seen
+nothingSeen = record { rows = 0; row = record { part = record { place = 0; count = 0 }; address = record { label = 0; nesting = Absent } } }
+
+abbrev pub seeRow : ℕ → Seen → Row → Seen
+seeRow k s r = record { rows = s .rows + 1; row = either (eqb (s .rows) k) (whole r) (s .row) }
+
+abbrev pub seeAll : ℕ → Seen → List Row → Seen
+seeAll k s [] = s
+seeAll k s (r ∷ rs) = seeAll k (seeRow k s r) rs
+
+-- what the enum `Search` stands for
+abbrev pub searched : Search → Outcome Seen
+searched (search.Is seen) = answer seen
+searched (search.Fault why place) = refuse (numberOf why) place
 
 -- which versions of the label are allowed
 module _ (versions : Versions) where
@@ -31,8 +64,8 @@ module _ (versions : Versions) where
   Stands part at (Group end) = ObjectAt part at true end
   Stands part at (Fault why) = (place : ℕ) × (object versions (drop at part) ≡ refuse (numberOf why) place)
 
-  -- the nested check of a part of the file from place `base` on, with `left` more depths allowed: the count is the scan's,
-  -- wherever the part stands in the nesting
-  pub record Checked (part : List ℕ) (base left : ℕ) (result : Outcome ℕ) : Type 0 where
-    pub counts : (depth : ℕ) (outermost : ℕ → ℕ) → result ≡ counting (objects versions left depth outermost base part)
-    pub few : (n : ℕ) → result ≡ answer n → n ≤ length part
+  -- the nested search of a part of the file from place `base` on, with `left` more depths allowed: it has seen the scan's rows, or
+  -- met its fault; and there are no more rows than bytes
+  pub record Searched (part : List ℕ) (base left : ℕ) (outermost : ℕ → ℕ) (k : ℕ) (earlier : Seen) (result : Outcome Seen) : Type 0 where
+    pub sees : result ≡ mapped (seeAll k earlier) (objects versions left (9 - left) outermost base part)
+    pub few : (s : Seen) → result ≡ answer s → s .rows ≤ base + length part

@@ -2,6 +2,8 @@
 -- numbered from 0; the bytes of a row are the leaf's value").
 use Prim.Native.Nat.{ℕ, _+_}
 use Rattle.answer.specs.declared.Part.{Part}
+use Rattle.answer.specs.declared.Shown.{Shown}
+use Rattle.answer.specs.declared.Nesting.the-variants.{Known}
 use Rattle.label.specs.Head.{labelSize}
 
 pub record Row : Type 0 where
@@ -21,3 +23,8 @@ valueAt r = r .label + labelSize
 -- a row as a part of the file: the leaf's value
 abbrev pub valueOf : Row → Part
 valueOf r = record { place = valueAt r; count = r .size }
+
+-- a row as it is answered, whole and with its address (document 02, item 8: "the place of its label, its depth, and the place of the
+-- outermost object it lies in")
+abbrev pub whole : Row → Shown
+whole r = record { part = valueOf r; address = record { label = r .label; nesting = Known (r .depth) (r .outermost) } }

@@ -1,17 +1,26 @@
 // Labelled files: objects with the 20-byte label, inside one another to depth 8 (the field's name
-// for such an object is SFDU), and the nested check of a file. Renders document 01, "The label", from
-// the nesting on. Reading a row, indexes and windows are left to the crates above.
+// for such an object is SFDU), the nested check of a file, and reading a row of it from the first
+// byte, with its address. Renders document 01, "The label", from the nesting on, and document 02, item
+// 8. The forward walk, indexes and windows are left to the crates above.
+use answer::Address;
 use answer::Count;
+use answer::Nesting;
+use answer::Part;
 use answer::Refusal;
+use answer::Show;
+use answer::Shown;
 use label::LabelRead;
 use label::Versions;
 ghost use mathlib.Core.Path.{_≡_};
-ghost use Prim.Native.Nat.{_+_, _≤_, _<_};
+ghost use Prim.Native.Nat.{_+_, _-_, _≤_, _<_};
 ghost use lib.ListN.{length};
 ghost use Rattle.answer.specs.Counted.{counted};
 ghost use Rattle.answer.specs.Size.{largestFile};
-ghost use Rattle.sfdu.specs.Check.{checkLabelled};
-ghost use Rattle.sfdu.specs.Private.{Stands, Checked};
+ghost use Rattle.answer.specs.Window.{shown};
+ghost use Rattle.answer.specs.Outcome.{mapped};
+ghost use Rattle.sfdu.specs.Check.{rowsOfFile, checkLabelled};
+ghost use Rattle.sfdu.specs.Find.{findRow};
+ghost use Rattle.sfdu.specs.Private.{Stands, outermostBy, nothingSeen, seeRow, seeAll, searched, Searched};
 
 // The depths at which labels may stand.
 const DEPTHS: usize = 8;
@@ -46,46 +55,135 @@ fn object_at(versions: Versions, part: &[u8], at: usize) -> Object
     }
 }
 
-// The rows of a part of a file, from place `base` on, with `left` more depths allowed: siblings by
-// the loop, what is inside an object by a call on its value.
-fn check_part(versions: Versions, part: &[u8], base: usize, left: usize) -> Count
-    requires { ⌜ base + length (now part) ≤ largestFile ⌝ }
-    ensures { λ r. ⌜ Checked versions (now (part .entry)) base left (counted r) ⌝ }
+// What a search for row `k` has seen: how many rows, and row `k` once it is one of them.
+struct Seen {
+    rows: usize,
+    row: Shown,
+}
+
+// What a search has seen at its end, or the fault that it met.
+enum Search {
+    Is(Seen),
+    Fault(Refusal, usize),
+}
+
+// The outermost object that the objects of a part lie in: each in itself, or all in the one at a place.
+enum Outer {
+    Itself,
+    At(usize),
+}
+
+// The place of the outermost object that the object at `place` lies in.
+fn outermost(outer: Outer, place: usize) -> usize
+    ensures { λ r. ⌜ r ≡ outermostBy outer place ⌝ }
+{
+    match outer {
+        Outer::Itself => place,
+        Outer::At(top) => top,
+    }
+}
+
+// What is seen with one leaf more, whose label stands at `place`.
+fn see_leaf(seen: Seen, k: usize, place: usize, size: usize, depth: usize, top: usize) -> Seen
+    requires { ⌜ (seen .rows ≤ largestFile) × (place ≤ largestFile) ⌝ }
+    ensures { λ r. ⌜ r ≡ seeRow k seen (record { label = place; size = size; depth = depth; outermost = top }) ⌝ }
+{
+    let rows = seen.rows + 1;
+    if seen.rows == k {
+        let value = place + label::LABEL;
+        return Seen {
+            rows,
+            row: Shown {
+                part: Part {
+                    place: value,
+                    count: size,
+                },
+                address: Address {
+                    label: place,
+                    nesting: Nesting::Known(depth, top),
+                },
+            },
+        };
+    }
+    let row = seen.row;
+    Seen { rows, row }
+}
+
+// Searches a part of a file, from place `base` on, for row `k`, with `left` more depths allowed, to the
+// part's end or to its first fault: siblings by the loop, what is inside an object by a call on its
+// value.
+fn search_part(
+    versions: Versions,
+    part: &[u8],
+    base: usize,
+    left: usize,
+    outer: Outer,
+    k: usize,
+    earlier: Seen,
+) -> Search
+    requires { ⌜ (base + length (now part) ≤ largestFile) × (left ≤ 8) × (earlier .rows ≤ base) ⌝ }
+    ensures { λ r. ⌜ Searched versions (now (part .entry)) base left (outermostBy outer) k earlier (searched r) ⌝ }
 {
     if part.len() == 0 {
-        return Count::Is(0);
+        return Search::Is(earlier);
     }
     if left == 0 {
-        return Count::Refused(Refusal::Deep, base);
+        return Search::Fault(Refusal::Deep, base);
     }
+    let depth = DEPTHS + 1 - left;
     let mut at: usize = 0;
-    let mut rows: usize = 0;
+    let mut seen = earlier;
     while at < part.len() {
+        let place = base + at;
         match object_at(versions, part, at) {
             Object::Fault(why) => {
-                let place = base + at;
-                return Count::Refused(why, place);
+                return Search::Fault(why, place);
             }
             Object::Leaf(next) => {
-                rows = rows + 1;
+                let size = next - at - label::LABEL;
+                let top = outermost(outer, place);
+                seen = see_leaf(seen, k, place, size, depth, top);
                 at = next;
             }
             Object::Group(end) => {
                 let body = at + label::LABEL;
-                let place = base + body;
-                match check_part(versions, &part[body..end], place, left - 1) {
-                    Count::Refused(why, where_) => {
-                        return Count::Refused(why, where_);
+                let inside = base + body;
+                let top = Outer::At(outermost(outer, place));
+                match search_part(versions, &part[body..end], inside, left - 1, top, k, seen) {
+                    Search::Fault(why, where_) => {
+                        return Search::Fault(why, where_);
                     }
-                    Count::Is(n) => {
-                        rows = rows + n;
+                    Search::Is(more) => {
+                        seen = more;
                         at = end;
                     }
                 }
             }
         }
     }
-    Count::Is(rows)
+    Search::Is(seen)
+}
+
+// Searches a whole file, which is not too big, for row `k`.
+fn search_file(versions: Versions, file: &[u8], k: usize) -> Search
+    requires { ⌜ length (now file) ≤ largestFile ⌝ }
+    ensures { λ r. ⌜ searched r ≡ mapped (seeAll k nothingSeen) (rowsOfFile versions (now (file .entry))) ⌝ }
+{
+    let part = Part { place: 0, count: 0 };
+    let address = Address {
+        label: 0,
+        nesting: Nesting::Absent,
+    };
+    let row = Shown { part, address };
+    search_part(
+        versions,
+        file,
+        0,
+        DEPTHS,
+        Outer::Itself,
+        k,
+        Seen { rows: 0, row },
+    )
 }
 
 // The check of a labelled file, with labels of these versions: how many rows it has, or its first fault.
@@ -95,5 +193,28 @@ pub fn check(versions: Versions, file: &[u8]) -> Count
     if answer::LARGEST_FILE < file.len() {
         return Count::Refused(Refusal::TooBig, 0);
     }
-    check_part(versions, file, 0, DEPTHS)
+    match search_file(versions, file, 0) {
+        Search::Is(seen) => Count::Is(seen.rows),
+        Search::Fault(why, place) => Count::Refused(why, place),
+    }
+}
+
+// Row `k` of a labelled file, whole, read from the first byte in one pass, which also checks the file;
+// 6 where there is no such row.
+pub fn find_row(versions: Versions, file: &[u8], k: usize) -> Show
+    ensures { λ r. ⌜ shown r ≡ findRow versions (now (file .entry)) k ⌝ }
+{
+    if answer::LARGEST_FILE < file.len() {
+        return Show::Refused(Refusal::TooBig, 0);
+    }
+    match search_file(versions, file, k) {
+        Search::Is(seen) => {
+            if k < seen.rows {
+                let row = seen.row;
+                return Show::Is(row);
+            }
+            Show::Refused(Refusal::NoRow, 0)
+        }
+        Search::Fault(why, place) => Show::Refused(why, place),
+    }
 }

@@ -1,5 +1,4 @@
--- Reading a row from the first byte: refused as the check refuses, else what a walk from the first byte comes to; and going on
--- from one row to the next.
+-- A walk from the first byte of an accepted file comes to the row that reading finds; and going on from one row to the next.
 use Prim.Native.Nat.{ℕ, _+_, _≤_, zero-le}
 use native.Mathlib.Omega.{arith}
 use mathlib.Core.Path.{_≡_, _∙_, sym, ap}
@@ -7,18 +6,20 @@ use mathlib.Core.List.{List}
 use lib.ListN.{length}
 use lib.Dec.{leb}
 use Rattle.label.specs.declared.Versions.{Versions}
-use Rattle.answer.specs.Outcome.{Outcome, answer, refuse, andThen}
+use Rattle.answer.specs.Outcome.{Outcome, answer, andThen, mapped}
+use Rattle.answer.specs.Nth.{nth}
+use Rattle.answer.specs.Address.{withoutDepth}
 use Rattle.answer.specs.Size.{largestFile}
-use Rattle.answer.specs.declared.Part.{Part}
-use Rattle.answer.proofs.Outcomes.{first-answered, refused-first, passed, after-answer, answer-injective, mapped-answer}
-use Rattle.sfdu.specs.Row.{Row}
-use Rattle.sfdu.specs.Check.{rowsOfFile, checkLabelled}
-use Rattle.walk.specs.Find.{findRow, nthRow, valueAtLeaf}
+use Rattle.answer.specs.declared.Shown.{Shown}
+use Rattle.answer.proofs.Outcomes.{first-answered, passed, after-answer, answer-injective, mapped-twice}
+use Rattle.sfdu.specs.Row.{Row, whole}
+use Rattle.sfdu.specs.Check.{rowsOfFile}
+use Rattle.sfdu.specs.Find.{findRow}
 use Rattle.walk.specs.declared.Leaf.{Leaf}
-use Rattle.walk.specs.Walk.{walk, walkFrom}
-use Rattle.sfdu.proofs.Checking.{accepted-says}
+use Rattle.walk.specs.Walk.{rowAtLeaf, walk, walkFrom}
+use Rattle.sfdu.proofs.Checking.{accepted-says, reads-the-row}
 use Rattle.walk.proofs.WalkLoop.{place-inside}
-use Rattle.walk.proofs.WalkReads.{walkAt, behind, walk-reads-rows, found-ends-inside, next-leaf}
+use Rattle.walk.proofs.WalkReads.{asWalked, walkAt, behind, walk-reads-rows, found-ends-inside, next-leaf}
 
 -- which versions of the label are allowed
 module _ (versions : Versions) where
@@ -31,27 +32,18 @@ module _ (versions : Versions) where
   pub walked-value-fits : (f : List ℕ) (from k : ℕ) (found : Leaf) → walkFrom versions f from k ≡ answer found → found .place + 20 ≤ length f
   walked-value-fits f from k found e = omega (arith, found-ends-inside versions f from k found (walk-from-inside f from k found e))
 
-  pub refused-as-the-check : (f : List ℕ) (k n p : ℕ) → checkLabelled versions f ≡ refuse n p → findRow versions f k ≡ refuse n p
-  unfolding findRow checkLabelled
-  refused-as-the-check f k n p e = ap (λ (o : Outcome (List Row)). andThen o (λ rows. nthRow rows k)) (refused-first (rowsOfFile versions f) length e)
+  -- row k of a file whose rows are known, without its depth
+  pub reads-as-walked : (f : List ℕ) (rows : List Row) → rowsOfFile versions f ≡ answer rows → (k : ℕ)
+      → mapped withoutDepth (findRow versions f k) ≡ mapped asWalked (nth rows k)
+  reads-as-walked f rows e k = ap (mapped withoutDepth) (reads-the-row versions f rows e k) ∙ mapped-twice (nth rows k) whole withoutDepth
 
-  -- a file whose rows are known: reading row k is taking the k-th of them
-  pub reads-the-row : (f : List ℕ) (rows : List Row) → rowsOfFile versions f ≡ answer rows → (k : ℕ) → findRow versions f k ≡ nthRow rows k
-  unfolding findRow
-  reads-the-row f rows e k = ap (λ (o : Outcome (List Row)). andThen o (λ rs. nthRow rs k)) e
-
-  -- and a walk from the first byte comes to it
+  -- of a file whose rows are known, a walk from the first byte comes to the row that reading finds, and does not know its depth
   pub walk-finds-the-row : (f : List ℕ) (rows : List Row) → rowsOfFile versions f ≡ answer rows → (k : ℕ)
-      → andThen (walkFrom versions f 0 k) valueAtLeaf ≡ nthRow rows k
+      → andThen (walkFrom versions f 0 k) rowAtLeaf ≡ mapped withoutDepth (findRow versions f k)
   walk-finds-the-row f rows e k =
       let (small, scanned) = accepted-says versions f rows e in
-      ap (λ (o : Outcome Leaf). andThen o valueAtLeaf) (place-inside versions f 0 k small zero-le) ∙ walk-reads-rows versions f rows scanned k
-
-  pub checked-file-is-walked : (f : List ℕ) (k n : ℕ) → checkLabelled versions f ≡ answer n → andThen (walkFrom versions f 0 k) valueAtLeaf ≡ findRow versions f k
-  unfolding checkLabelled
-  checked-file-is-walked f k n e =
-      let q = mapped-answer length (rowsOfFile versions f) n e in
-      walk-finds-the-row f (q .0) (q .1) k ∙ sym (reads-the-row f (q .0) (q .1) k)
+      ap (λ (o : Outcome Leaf). andThen o rowAtLeaf) (place-inside versions f 0 k small zero-le)
+      ∙ walk-reads-rows versions f rows scanned k ∙ sym (reads-as-walked f rows e k)
 
   -- ---- row after row
 
@@ -62,11 +54,12 @@ module _ (versions : Versions) where
       ∙ sym (next-leaf versions f 0 k ∙ after-answer (walkAt versions f 0 k) (λ y. walkAt versions f (behind y) 0) x walked)
 
   -- on an accepted file, from the end of row k's bytes it comes to row k + 1
-  pub next-row-found : (f : List ℕ) (rows : List Row) → rowsOfFile versions f ≡ answer rows → (k : ℕ) (row : Part) → findRow versions f k ≡ answer row
-      → andThen (walkFrom versions f (row .place + row .count) 0) valueAtLeaf ≡ findRow versions f (k + 1)
+  pub next-row-found : (f : List ℕ) (rows : List Row) → rowsOfFile versions f ≡ answer rows → (k : ℕ) (row : Shown) → findRow versions f k ≡ answer row
+      → andThen (walkFrom versions f (row .part .place + row .part .count) 0) rowAtLeaf ≡ mapped withoutDepth (findRow versions f (k + 1))
   next-row-found f rows e k row found =
       let (small, scanned) = accepted-says versions f rows e in
-      let (x, walked, value) = first-answered (walkAt versions f 0 k) valueAtLeaf row (walk-reads-rows versions f rows scanned k ∙ sym (reads-the-row f rows e k) ∙ found) in
-      let end : row .place + row .count ≡ behind x = ap (λ (p : Part). p .place + p .count) (sym (answer-injective value)) in
-      ap (λ (o : Outcome Leaf). andThen o valueAtLeaf) (ap (λ (p : ℕ). walkFrom versions f p 0) end ∙ walks-on f k x small walked)
-      ∙ walk-reads-rows versions f rows scanned (k + 1) ∙ sym (reads-the-row f rows e (k + 1))
+      let (x, walked, value) = first-answered (walkAt versions f 0 k) rowAtLeaf (withoutDepth row)
+      (walk-reads-rows versions f rows scanned k ∙ sym (reads-as-walked f rows e k) ∙ ap (mapped withoutDepth) found) in
+      let end : row .part .place + row .part .count ≡ behind x = ap (λ (p : Shown). p .part .place + p .part .count) (sym (answer-injective value)) in
+      ap (λ (o : Outcome Leaf). andThen o rowAtLeaf) (ap (λ (p : ℕ). walkFrom versions f p 0) end ∙ walks-on f k x small walked)
+      ∙ walk-reads-rows versions f rows scanned (k + 1) ∙ sym (reads-as-walked f rows e (k + 1))

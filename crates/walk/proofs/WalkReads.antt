@@ -11,40 +11,46 @@ use mathlib.Core.List.{List, [], _∷_, _++_, append-nil}
 use mathlib.Core.Option.{Option, none, some}
 use lib.ListN.{length, drop, length-drop}
 use lib.Seq.{drop-drop}
-use Rattle.answer.specs.Outcome.{Outcome, answer, refuse, andThen}
-use Rattle.answer.specs.declared.Part.{Part}
+use Rattle.answer.specs.Outcome.{Outcome, answer, refuse, andThen, mapped}
+use Rattle.answer.specs.Nth.{nth}
+use Rattle.answer.specs.Address.{withoutDepth}
+use Rattle.answer.specs.declared.Shown.{Shown}
+use Rattle.answer.specs.declared.Nesting.the-variants.{Absent}
 use Rattle.answer.proofs.Outcomes.{answer-is-no-refusal, answer-injective, andThen-agrees-where}
 use Rattle.label.specs.declared.Versions.{Versions}
 use Rattle.label.specs.declared.Label.{Label}
-use Rattle.sfdu.specs.Row.{Row, valueOf}
+use Rattle.sfdu.specs.Row.{Row, whole}
 use Rattle.sfdu.specs.Forest.{Forest, done, leaf, group, encode, IsLabel, Valid, leaves}
 use Rattle.sfdu.specs.Scan.{scan}
-use Rattle.walk.specs.Find.{nthRow, valueAtLeaf}
 use Rattle.walk.specs.declared.Leaf.{Leaf}
-use Rattle.walk.specs.Walk.{stepAt, onStep, walk}
+use Rattle.walk.specs.Walk.{rowAtLeaf, stepAt, onStep, walk}
 use Rattle.sfdu.proofs.Steps.{taken}
 use Rattle.sfdu.proofs.Forests.{three, after, front-length, front-is-an-object, front-drop, front-rest}
 use Rattle.walk.proofs.Walking.{LeafStep, step-is-a-leaf, step-opened, step-leaf, walk-ends, walk-opened, walk-arrives, walk-leaf}
 use Rattle.sfdu.proofs.Exact.{forestOfFile, accepted-divides}
 
+-- a row as a walk knows it
+abbrev pub asWalked : Row → Shown
+asWalked r = withoutDepth (whole r)
+
 -- the k-th of some rows, or what comes after them
-abbrev pub nthOr : List Row → ℕ → (ℕ → Outcome Part) → Outcome Part
+abbrev pub nthOr : List Row → ℕ → (ℕ → Outcome Shown) → Outcome Shown
 nthOr [] k rest = rest k
-nthOr (r ∷ rs) zero rest = answer (valueOf r)
+nthOr (r ∷ rs) zero rest = answer (asWalked r)
 nthOr (r ∷ rs) (suc k) rest = nthOr rs k rest
 
-nthOr-append : (rs more : List Row) (k : ℕ) (rest : ℕ → Outcome Part) → nthOr (rs ++ more) k rest ≡ nthOr rs k (λ j. nthOr more j rest)
+nthOr-append : (rs more : List Row) (k : ℕ) (rest : ℕ → Outcome Shown) → nthOr (rs ++ more) k rest ≡ nthOr rs k (λ j. nthOr more j rest)
 nthOr-append [] more k rest = refl
 nthOr-append (r ∷ rs) more zero rest = refl
 nthOr-append (r ∷ rs) more (suc k) rest = nthOr-append rs more k rest
 
 -- past the last row there is none
-pub nthOr-none : (rs : List Row) (k : ℕ) → nthOr rs k (λ j. refuse 6 0) ≡ nthRow rs k
+pub nthOr-none : (rs : List Row) (k : ℕ) → nthOr rs k (λ j. refuse 6 0) ≡ mapped asWalked (nth rs k)
 nthOr-none [] k = refl
 nthOr-none (r ∷ rs) zero = refl
 nthOr-none (r ∷ rs) (suc k) = nthOr-none rs k
 
-nthOr-agrees : (rs : List Row) (k : ℕ) (f g : ℕ → Outcome Part) → ((j : ℕ) → f j ≡ g j) → nthOr rs k f ≡ nthOr rs k g
+nthOr-agrees : (rs : List Row) (k : ℕ) (f g : ℕ → Outcome Shown) → ((j : ℕ) → f j ≡ g j) → nthOr rs k f ≡ nthOr rs k g
 nthOr-agrees [] k f g h = h k
 nthOr-agrees (r ∷ rs) zero f g h = refl
 nthOr-agrees (r ∷ rs) (suc k) f g h = nthOr-agrees rs k f g h
@@ -69,9 +75,9 @@ behind x = x .place + 20 + x .label .length
 
 -- which versions of the label are allowed
 module _ (versions : Versions) where
-  -- the value that a walk comes to
-  abbrev pub walkedValue : ℕ → ℕ → List ℕ → Outcome Part
-  walkedValue at k s = andThen (walk versions at k 0 s) valueAtLeaf
+  -- the row that a walk comes to
+  abbrev pub walkedRow : ℕ → ℕ → List ℕ → Outcome Shown
+  walkedRow at k s = andThen (walk versions at k 0 s) rowAtLeaf
 
   -- a label and its value at the front, as the walk takes them
   module _ (label value t : List ℕ) (at : ℕ) where
@@ -84,64 +90,65 @@ module _ (versions : Versions) where
         step-leaf versions (label ++ (value ++ t)) (is .label) (object-is .reads) (is .class) (object-is .fits)
 
     over-a-leaf : (is : IsLabel versions label false (length value)) (k : ℕ) (row : Row) → row .label ≡ at → row .size ≡ length value
-        → walkedValue at k (label ++ (value ++ t)) ≡ nthOr (row ∷ []) k (λ j. walkedValue (at + (20 + length value)) j t)
+        → walkedRow at k (label ++ (value ++ t)) ≡ nthOr (row ∷ []) k (λ j. walkedRow (at + (20 + length value)) j t)
     over-a-leaf is zero row p q =
-        ap (λ (o : Outcome Leaf). andThen o valueAtLeaf)
+        ap (λ (o : Outcome Leaf). andThen o rowAtLeaf)
         (walk-arrives versions at (label ++ (value ++ t)) (some-bytes false is) (is .label) (takes-the-leaf is))
-        ∙ ap₂ (λ (place count : ℕ). answer (record { place = place + 20; count = count })) (sym p) (is .follows ∙ sym q)
+        ∙ ap₂ (λ (place count : ℕ). answer (record { part = record { place = place + 20; count = count }; address = record { label = place; nesting = Absent } }))
+        (sym p) (is .follows ∙ sym q)
     over-a-leaf is (suc k) row p q =
-        ap (λ (o : Outcome Leaf). andThen o valueAtLeaf)
+        ap (λ (o : Outcome Leaf). andThen o rowAtLeaf)
         (walk-leaf versions at (label ++ (value ++ t)) (some-bytes false is) k (is .label) (takes-the-leaf is)
         ∙ ap₂ (λ (n : ℕ) (u : List ℕ). walk versions (at + (20 + n)) k 0 u) (is .follows) (front-rest versions label value t false is))
 
     into-a-group : (is : IsLabel versions label true (length value)) (k : ℕ)
-        → walkedValue at k (label ++ (value ++ t)) ≡ walkedValue (at + 20) k (value ++ t)
+        → walkedRow at k (label ++ (value ++ t)) ≡ walkedRow (at + 20) k (value ++ t)
     into-a-group is k =
         let object-is = taken versions (label ++ (value ++ t)) (is .label) (front-is-an-object versions label value t true is) in
-        ap (λ (o : Outcome Leaf). andThen o valueAtLeaf)
+        ap (λ (o : Outcome Leaf). andThen o rowAtLeaf)
         (walk-opened versions at (label ++ (value ++ t)) (some-bytes true is) k (step-opened versions (label ++ (value ++ t)) (is .label) (object-is .reads) (is .class))
         ∙ ap (walk versions (at + 20) k 0) (front-drop versions label value t true is))
 
   walk-over-forest : (left depth : ℕ) (outermost : ℕ → ℕ) (F : Forest) → Valid versions left F → (at k : ℕ) (t : List ℕ)
-      → walkedValue at k (encode F ++ t) ≡ nthOr (leaves depth outermost at F) k (λ j. walkedValue (at + length (encode F)) j t)
-  walk-over-forest zero depth outermost done v at k t = ap (λ (p : ℕ). walkedValue p k t) (sym (add-zero at))
-  walk-over-forest (suc left) depth outermost done v at k t = ap (λ (p : ℕ). walkedValue p k t) (sym (add-zero at))
+      → walkedRow at k (encode F ++ t) ≡ nthOr (leaves depth outermost at F) k (λ j. walkedRow (at + length (encode F)) j t)
+  walk-over-forest zero depth outermost done v at k t = ap (λ (p : ℕ). walkedRow p k t) (sym (add-zero at))
+  walk-over-forest (suc left) depth outermost done v at k t = ap (λ (p : ℕ). walkedRow p k t) (sym (add-zero at))
   walk-over-forest zero depth outermost (leaf label value rest) v at k t = absurd v
   walk-over-forest zero depth outermost (group label inside rest) v at k t = absurd v
   walk-over-forest (suc left) depth outermost (leaf label value rest) v at k t =
       let row : Row = record { label = at; size = length value; depth = depth; outermost = outermost at } in
       let next = at + (20 + length value) in
-      ap (walkedValue at k) (three label value (encode rest) t)
+      ap (walkedRow at k) (three label value (encode rest) t)
       ∙ over-a-leaf label value (encode rest ++ t) at (v .0) k row refl refl
-      ∙ nthOr-agrees (row ∷ []) k (λ j. walkedValue next j (encode rest ++ t))
-      (λ j. nthOr (leaves depth outermost next rest) j (λ i. walkedValue (next + length (encode rest)) i t))
+      ∙ nthOr-agrees (row ∷ []) k (λ j. walkedRow next j (encode rest ++ t))
+      (λ j. nthOr (leaves depth outermost next rest) j (λ i. walkedRow (next + length (encode rest)) i t))
       (λ j. walk-over-forest (suc left) depth outermost rest (v .1) next j t)
-      ∙ sym (nthOr-append (row ∷ []) (leaves depth outermost next rest) k (λ i. walkedValue (next + length (encode rest)) i t))
-      ∙ ap (λ (p : ℕ). nthOr (row ∷ leaves depth outermost next rest) k (λ i. walkedValue p i t)) (after at label value (encode rest) (v .0 .twenty))
+      ∙ sym (nthOr-append (row ∷ []) (leaves depth outermost next rest) k (λ i. walkedRow (next + length (encode rest)) i t))
+      ∙ ap (λ (p : ℕ). nthOr (row ∷ leaves depth outermost next rest) k (λ i. walkedRow p i t)) (after at label value (encode rest) (v .0 .twenty))
   walk-over-forest (suc left) depth outermost (group label inside rest) v at k t =
       let inner = leaves (suc depth) (λ _. outermost at) (at + 20) inside in
       let next = at + (20 + length (encode inside)) in
-      ap (walkedValue at k) (three label (encode inside) (encode rest) t)
+      ap (walkedRow at k) (three label (encode inside) (encode rest) t)
       ∙ into-a-group label (encode inside) (encode rest ++ t) at (v .0) k
       ∙ walk-over-forest left (suc depth) (λ _. outermost at) inside (v .1) (at + 20) k (encode rest ++ t)
-      ∙ nthOr-agrees inner k (λ j. walkedValue (at + 20 + length (encode inside)) j (encode rest ++ t))
-      (λ j. nthOr (leaves depth outermost next rest) j (λ i. walkedValue (next + length (encode rest)) i t))
-      (λ j. ap (λ (p : ℕ). walkedValue p j (encode rest ++ t)) {x = at + 20 + length (encode inside)} {y = next} (omega arith)
+      ∙ nthOr-agrees inner k (λ j. walkedRow (at + 20 + length (encode inside)) j (encode rest ++ t))
+      (λ j. nthOr (leaves depth outermost next rest) j (λ i. walkedRow (next + length (encode rest)) i t))
+      (λ j. ap (λ (p : ℕ). walkedRow p j (encode rest ++ t)) {x = at + 20 + length (encode inside)} {y = next} (omega arith)
       ∙ walk-over-forest (suc left) depth outermost rest (v .2) next j t)
-      ∙ sym (nthOr-append inner (leaves depth outermost next rest) k (λ i. walkedValue (next + length (encode rest)) i t))
-      ∙ ap (λ (p : ℕ). nthOr (inner ++ leaves depth outermost next rest) k (λ i. walkedValue p i t)) (after at label (encode inside) (encode rest) (v .0 .twenty))
+      ∙ sym (nthOr-append inner (leaves depth outermost next rest) k (λ i. walkedRow (next + length (encode rest)) i t))
+      ∙ ap (λ (p : ℕ). nthOr (inner ++ leaves depth outermost next rest) k (λ i. walkedRow p i t)) (after at label (encode inside) (encode rest) (v .0 .twenty))
 
   -- the theorem: walking from the first byte of an accepted file finds row k, or meets the end
-  pub walk-reads-rows : (f : List ℕ) (rows : List Row) → scan versions f ≡ answer rows → (k : ℕ) → walkedValue 0 k f ≡ nthRow rows k
+  pub walk-reads-rows : (f : List ℕ) (rows : List Row) → scan versions f ≡ answer rows → (k : ℕ) → walkedRow 0 k f ≡ mapped asWalked (nth rows k)
   walk-reads-rows f rows e k =
       let d = accepted-divides versions f rows e in
       let F = forestOfFile versions f in
-      ap (walkedValue 0 k) (sym (append-nil f) ∙ ap (λ (s : List ℕ). s ++ []) (sym (d .bytes)))
+      ap (walkedRow 0 k) (sym (append-nil f) ∙ ap (λ (s : List ℕ). s ++ []) (sym (d .bytes)))
       ∙ walk-over-forest 8 1 (λ at. at) F (d .valid) 0 k []
-      ∙ nthOr-agrees (leaves 1 (λ at. at) 0 F) k (λ j. walkedValue (0 + length (encode F)) j []) (λ j. refuse 6 0)
-      (λ j. ap (λ (o : Outcome Leaf). andThen o valueAtLeaf) (walk-ends versions (0 + length (encode F)) j 0))
+      ∙ nthOr-agrees (leaves 1 (λ at. at) 0 F) k (λ j. walkedRow (0 + length (encode F)) j []) (λ j. refuse 6 0)
+      (λ j. ap (λ (o : Outcome Leaf). andThen o rowAtLeaf) (walk-ends versions (0 + length (encode F)) j 0))
       ∙ nthOr-none (leaves 1 (λ at. at) 0 F) k
-      ∙ ap (λ (rs : List Row). nthRow rs k) (d .rows-are)
+      ∙ ap (λ (rs : List Row). mapped asWalked (nth rs k)) (d .rows-are)
 
   -- ---- going on from a leaf that was found
 

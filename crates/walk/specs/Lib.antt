@@ -1,4 +1,3 @@
 pub mod Walk
-pub mod Find
 pub mod Private
 pub mod Alike

@@ -11,6 +11,8 @@ use lib.Dec.{leb}
 use Rattle.answer.specs.Outcome.{Outcome, answer, refuse, need, andThen}
 use Rattle.answer.specs.Refusal.{numberOf}
 use Rattle.answer.specs.Size.{ofFile}
+use Rattle.answer.specs.declared.Shown.{Shown}
+use Rattle.answer.specs.declared.Nesting.the-variants.{Absent}
 use Rattle.label.specs.declared.Label.{Label}
 use Rattle.label.specs.declared.Versions.{Versions}
 use Rattle.label.specs.Head.{labelSize}
@@ -24,6 +26,15 @@ use Rattle.walk.specs.declared.Walked.the-variants.{Is, Refused}
 abbrev pub walkedTo : Walked → Outcome Leaf
 walkedTo (Is leaf) = answer leaf
 walkedTo (Refused why place) = refuse (numberOf why) place
+
+-- the row that stands at a leaf, whole: its value, and its label's place; how deep it stands the walk does not know (document 02, item
+-- 8: "it fills only the label's place and says that the other two are absent")
+abbrev pub rowAtLeaf : Leaf → Outcome Shown
+rowAtLeaf leaf =
+    answer (record {
+      part = record { place = leaf .place + labelSize; count = leaf .label .length };
+      address = record { label = leaf .place; nesting = Absent };
+    })
 
 -- how a walk takes a label with so many bytes after it: nothing where its class is opened, else the leaf, whose value
 -- must end inside the file

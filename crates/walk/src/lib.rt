@@ -1,18 +1,19 @@
-// The forward walk through a labelled file from any place, with no memory of depth, and reading a row
-// by it. Renders document 01, "The index and the jump" (how the jump walks) and the paragraph on
-// reading a row of a labelled file. Indexes and windows are left to the crates above.
-use answer::Count;
+// The forward walk through a labelled file from any place, with no memory of depth, and the row that
+// it comes to. Renders document 01, "The index and the jump" (how the jump walks). Indexes and windows
+// are left to the crates above.
+use answer::Address;
+use answer::Nesting;
 use answer::Part;
 use answer::Refusal;
 use answer::Show;
+use answer::Shown;
 use label::Label;
 use label::LabelRead;
 use label::Versions;
 ghost use mathlib.Core.Path.{_≡_};
 ghost use Rattle.answer.specs.Outcome.{andThen};
 ghost use Rattle.answer.specs.Window.{shown};
-ghost use Rattle.walk.specs.Walk.{walkedTo, walkFrom, stepAt};
-ghost use Rattle.walk.specs.Find.{findRow, valueAtLeaf};
+ghost use Rattle.walk.specs.Walk.{walkedTo, rowAtLeaf, walkFrom, stepAt};
 ghost use Rattle.walk.specs.Private.{stepped};
 
 // A leaf: the place of its label, and what the label says.
@@ -90,29 +91,26 @@ pub fn walk_from(versions: Versions, file: &[u8], from: usize, leaves: usize) ->
     Walked::Refused(Refusal::NoRow, 0)
 }
 
-// The value of the leaf that a walk from place `from` comes to, after so many leaves.
-pub fn value_from(versions: Versions, file: &[u8], from: usize, leaves: usize) -> Show
-    ensures { λ r. ⌜ shown r ≡ andThen (walkFrom versions (now (file .entry)) from leaves) valueAtLeaf ⌝ }
+// The row of the leaf that a walk from place `from` comes to, after so many leaves. Its depth is absent.
+pub fn row_from(versions: Versions, file: &[u8], from: usize, leaves: usize) -> Show
+    ensures { λ r. ⌜ shown r ≡ andThen (walkFrom versions (now (file .entry)) from leaves) rowAtLeaf ⌝ }
 {
     match walk_from(versions, file, from, leaves) {
         Walked::Is(leaf) => {
-            let value = leaf.place + label::LABEL;
-            Show::Is(Part {
-                place: value,
-                count: leaf.label.length,
+            let label = leaf.place;
+            let value = label + label::LABEL;
+            let count = leaf.label.length;
+            Show::Is(Shown {
+                part: Part {
+                    place: value,
+                    count,
+                },
+                address: Address {
+                    label,
+                    nesting: Nesting::Absent,
+                },
             })
         }
         Walked::Refused(why, place) => Show::Refused(why, place),
-    }
-}
-
-// Row k of a labelled file, read from the first byte: the whole file is checked, and then its leaves
-// are counted.
-pub fn find_row(versions: Versions, file: &[u8], k: usize) -> Show
-    ensures { λ r. ⌜ shown r ≡ findRow versions (now (file .entry)) k ⌝ }
-{
-    match sfdu::check(versions, file) {
-        Count::Is(_) => value_from(versions, file, 0, k),
-        Count::Refused(why, place) => Show::Refused(why, place),
     }
 }

@@ -20,7 +20,6 @@ ghost use Rattle.fixed_rows.specs.From.{rowFrom};
 ghost use Rattle.waveform.specs.Rows.{rowSize, waveform};
 ghost use Rattle.waveform.specs.Sample.{twiceAmplitude};
 use answer::Count;
-use answer::Part;
 use answer::Show;
 
 // The bytes of a row, of its prefix and of its samples.
@@ -91,10 +90,7 @@ fn samples_from(found: Count) -> Show
     match found {
         Count::Is(start) => {
             let place = start + PREFIX;
-            Show::Is(Part {
-                place,
-                count: SAMPLES,
-            })
+            Show::Is(answer::unlabelled(place, SAMPLES))
         }
         Count::Refused(why, place) => Show::Refused(why, place),
     }

@@ -1,4 +1,4 @@
--- `capi::crest_read_row_waveform` meets its contract: `hand::part` hands over what `reader::read_row` promises.
+-- `capi::crest_read_row_waveform` meets its contract: `hand::row` hands over what `reader::read_row` promises.
 use borrow.Author.Needs.{needs}
 use Rattle.capi.proofs.crest_read_row_waveform.Statement.{statement}
 use Rattle.capi.proofs.crest_read_row_waveform.Tie as tie
@@ -6,11 +6,11 @@ use Rattle.capi.proofs.crest_read_row_waveform.Tie as tie
 read-row-requires : tie.Need-read-row-requires
 read-row-requires c κs = search needs
 
-part-requires : tie.Need-part-requires
-part-requires c κs = search needs
+row-requires : tie.Need-row-requires
+row-requires c κs = search needs
 
 returns : tie.Need-returns
-returns c = rw (c .before .before .before .read-row .ensures) at (c .part .ensures)
+returns c = rw (c .before .before .read-row .ensures) at (c .row .ensures)
 
 pub crest-read-row-waveform-spec : {M : Type 1} → statement M
-crest-read-row-waveform-spec = tie.close (tie.spec read-row-requires part-requires returns)
+crest-read-row-waveform-spec = tie.close (tie.spec read-row-requires row-requires returns)

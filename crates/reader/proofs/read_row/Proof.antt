@@ -4,7 +4,7 @@ use native.Mathlib.Omega.{arith}
 use mathlib.Core.Path.{_∙_, sym, ap}
 use Rattle.answer.specs.Outcome.{Outcome, andThen}
 use Rattle.answer.specs.Window.{windowIn}
-use Rattle.answer.specs.declared.Part.{Part}
+use Rattle.answer.specs.declared.Shown.{Shown}
 use Rattle.reader.specs.Read.{readRow}
 use Rattle.reader.proofs.Found.{row-inside}
 use borrow.Author.Needs.{needs}
@@ -23,7 +23,7 @@ unfolding readRow
 returns c =
     let a = c .before .before .before .args in
     c .window-in .ensures
-    ∙ ap (λ (o : Outcome Part). andThen o (windowIn (a .a) (a .c))) (c .before .find-row .ensures)
+    ∙ ap (λ (o : Outcome Shown). andThen o (windowIn (a .a) (a .c))) (c .before .find-row .ensures)
 
 pub read-row-spec : {M : Type 1} → statement M
 read-row-spec = tie.close (tie.spec find-row-requires window-in-requires returns)

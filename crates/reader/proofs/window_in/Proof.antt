@@ -15,11 +15,12 @@ window-fits-requires c κs = search needs
 
 add-place : tie.Need-add-place
 add-place c =
-    let h = fitting-is-inside (c .before .before .before .before .row .given .0 .0 .count) (c .before .before .before .before .before .before .args .a) (c .before .before .before .before .before .before .args .c) (sym (c .before .before .window-fits .ensures) ∙ c .before .if1 .taken) in
+    let h = fitting-is-inside (c .before .before .before .before .row .given .0 .0 .part .count) (c .before .before .before .before .before .before .args .a) (c .before .before .before .before .before .before .args .c) (sym (c .before .before .window-fits .ensures) ∙ c .before .if1 .taken) in
     omega (arith, h, c .before .before .before .before .before .before .pre (c .before .before .before .before .row .given .0 .0) (ap shown (c .before .before .before .before .row .given .1)))
 
 returns : tie.Need-returns
-returns c = simp (ap shown (c .before .before .before .before .row .given .1), (sym (c .before .before .window-fits .ensures) ∙ c .before .if1 .taken))
+returns c =
+    simp (ap shown (c .before .before .before .before .before .row .given .1), (sym (c .before .before .before .window-fits .ensures) ∙ c .before .before .if1 .taken))
 
 enum-known-row-2 : tie.Need-enum-known-row-2
 enum-known-row-2 c = search needs

@@ -27,12 +27,12 @@ returns-3 : tie.Need-returns-3
 returns-3 c =
     sym (entry-beyond (c .before .before .before .before .before .before .args .versions) (now (c .before .before .before .before .before .before .args .file)) (now (c .before .before .before .before .before .before .args .list)) (c .before .before .before .before .before .before .args .k) (c .before .before .before .if1 .left) (c .before .before .if2 .left) (c .if3 .taken))
 
-value-from-requires : tie.Need-value-from-requires
-value-from-requires c κs = search needs
+row-from-requires : tie.Need-row-from-requires
+row-from-requires c κs = search needs
 
 returns-4 : tie.Need-returns-4
 returns-4 c =
-    c .value-from .ensures
+    c .row-from .ensures
     ∙ sym (jumps-from-entry (c .before .before .before .before .before .before .before .args .versions) (now (c .before .before .before .before .before .before .before .args .file)) (now (c .before .before .before .before .before .before .before .args .list)) (c .before .before .before .before .before .before .before .args .k) (c .before .before .before .before .if1 .left) (c .before .before .before .if2 .left) (c .before .if3 .left))
 
 pub jump-to-spec : {M : Type 1} → statement M
@@ -45,5 +45,5 @@ jump-to-spec =
     shared-slice-read-entry
     cast-entry
     returns-3
-    value-from-requires
+    row-from-requires
     returns-4)
