@@ -5,13 +5,14 @@
  *
  * Every call takes any bytes and any numbers. It answers, or it gives one refusal: a number and a place. On a refusal it has
  * written nothing, neither to lent memory nor through a pointer. On an answer it has written every number that it has a pointer
- * for, but crest_beams where there is none, and the front of the memory lent to it; what stands behind that front is unchanged.
+ * for, but those that are absent (in a crest_row, and by crest_beams), and the front of the memory lent to it; what stands behind
+ * that front is unchanged.
  * No call allocates, and none keeps anything, so that calls may run at the same time.
  *
  * What a caller owes:
  *  - a pointer with a length behind it is good for that many elements, and is aligned for them; only a pointer with length 0
  *    may be null;
- *  - a pointer without a length is not null: to one number, or to as many bytes as its declaration says;
+ *  - a pointer without a length is not null: to one number, to as many bytes as its declaration says, or to one crest_row;
  *  - outputs overlap neither one another nor an input, and nobody else writes to an input while a call runs;
  *  - a file is of the kind that the call's name says: no call can tell the kinds apart.
  *
@@ -25,8 +26,8 @@
  * on, which the caller gives, to the end of the file; where start is that end, there are none. What is in front of start is not
  * looked at.
  *
- * A place is the number of bytes before it in what was lent. A row's answer is the place of its window's first byte, and how many
- * bytes the window shows: they are file[place] to file[place + shown - 1]. Nothing is copied.
+ * A place is the number of bytes before it in what was lent. A row's answer is a crest_row: which bytes of the file the window
+ * shows, and the address of the row, which no window moves. Nothing is copied.
  *
  * The numbers of the refusals are in enum crest_refusal. "Refuses:" gives the refusals of a call in the order in which
  * they are tested; their place is 0 where nothing else is said.
@@ -50,6 +51,22 @@ typedef struct crest_result {
     uint64_t refusal; /* 0: the call answered; else one of enum crest_refusal */
     uint64_t place;   /* of the fault; 0 where the call answered */
 } crest_result;
+
+/* What is shown of a row, and where the row is found again in its file. */
+typedef struct crest_row {
+    uint64_t place;     /* of the first byte that is shown, where none is shown too */
+    uint64_t bytes;     /* how many are shown: file[place] to file[place + bytes - 1] */
+    uint64_t label;     /* the place of the row's label; in waveform and burst files of the row's own first byte */
+    uint64_t nesting;   /* one of enum crest_nesting: whether the two below are known; where they are absent, they stay as they were */
+    uint64_t depth;     /* of the row's label, 1 to 8; in waveform and burst files 0 */
+    uint64_t outermost; /* the place of the outermost object that the row lies in, at depth 1 its own label's; in the others as label */
+} crest_row;
+
+/* Whether a row's depth and its outermost object's place are told. */
+enum crest_nesting {
+    CREST_ABSENT = 0,
+    CREST_KNOWN = 1
+};
 
 enum crest_refusal {
     CREST_SHORT = 1,
@@ -209,81 +226,79 @@ crest_result crest_check_bursts(const uint8_t *file, size_t file_len, uint64_t s
  * reader::read_row of a labelled file. Reads count bytes of a row, from its byte first on, going through the file
  * from its first byte; rows are numbered from 0.
  * Refuses: as crest_check_labelled, wherever in the file the fault stands; then NOROW, NOPART.
- * Writes: place and shown; shown is count.
+ * Writes: shown, of which bytes is count and nesting is known.
  */
 crest_result crest_read_row_labelled(const uint8_t *file, size_t file_len, bool version_2, uint64_t row, uint64_t first,
-                                     uint64_t count, uint64_t *place, uint64_t *shown);
+                                     uint64_t count, crest_row *shown);
 
 /*
  * reader::read_row of a waveform file. Passes 2,080 bytes for each earlier row.
  * Refuses: TOOBIG, RAGGED, NOROW, NOPART.
- * Writes: place and shown; shown is count.
+ * Writes: shown, of which bytes is count and nesting is known.
  */
 crest_result crest_read_row_waveform(const uint8_t *file, size_t file_len, uint64_t row, uint64_t first, uint64_t count,
-                                     uint64_t *place, uint64_t *shown);
+                                     crest_row *shown);
 
 /*
  * reader::read_row of a burst file. Passes 1,272 bytes for each earlier row, from start on.
  * Refuses: TOOBIG, BADSTART, RAGGED, NOROW, NOPART.
- * Writes: place and shown; shown is count.
+ * Writes: shown, of which bytes is count and nesting is known.
  */
 crest_result crest_read_row_bursts(const uint8_t *file, size_t file_len, uint64_t start, uint64_t row, uint64_t first,
-                                   uint64_t count, uint64_t *place, uint64_t *shown);
+                                   uint64_t count, crest_row *shown);
 
 /*
  * reader::jump_row of a labelled file. Takes the entry of the row's group of 16 from list and walks on from there. It passes the 20
  * bytes of a label of class Z, U or F whatever length that claims, in either version. With a list that crest_check_index, told
- * the same choice, accepts, the answer is that of crest_read_row_labelled; with another one it is of no use to a reader.
+ * the same choice, accepts, the answer is that of crest_read_row_labelled without its depth; with another one it is of no use to a reader.
  * Refuses: TOOBIG; NOROW for a missing entry; BADINDEX for an entry beyond the file's length; then as the walk meets it,
  * SHORT, BADLABEL, in version 1 BADLENGTH, OVERRUN with the label's place, or NOROW at the end of the file; NOPART.
- * Writes: place and shown; shown is count.
+ * Writes: shown, of which bytes is count and nesting is absent.
  */
 crest_result crest_jump_labelled(const uint8_t *file, size_t file_len, bool version_2, const uint32_t *list, size_t list_len,
-                                 uint64_t row, uint64_t first, uint64_t count, uint64_t *place, uint64_t *shown);
+                                 uint64_t row, uint64_t first, uint64_t count, crest_row *shown);
 
 /*
  * reader::jump_row of a waveform file. Computes the row's place.
  * Refuses: TOOBIG, RAGGED, NOROW, NOPART.
- * Writes: place and shown; shown is count.
+ * Writes: shown, of which bytes is count and nesting is known.
  */
 crest_result crest_jump_waveform(const uint8_t *file, size_t file_len, uint64_t row, uint64_t first, uint64_t count,
-                                 uint64_t *place, uint64_t *shown);
+                                 crest_row *shown);
 
 /*
  * reader::jump_row of a burst file. Computes the row's place, start and a multiple of 1,272.
  * Refuses: TOOBIG, BADSTART, RAGGED, NOROW, NOPART.
- * Writes: place and shown; shown is count.
+ * Writes: shown, of which bytes is count and nesting is known.
  */
 crest_result crest_jump_bursts(const uint8_t *file, size_t file_len, uint64_t start, uint64_t row, uint64_t first,
-                               uint64_t count, uint64_t *place, uint64_t *shown);
+                               uint64_t count, crest_row *shown);
 
 /*
  * reader::row_from of a labelled file. Gives the whole row whose label comes first from the place from on. To go through an accepted
- * file row by row, begin at 0 and go on at place + shown of each row, until NOROW.
+ * file row by row, begin at 0 and go on at place + bytes of each row, until NOROW.
  * Refuses: TOOBIG; NOROW for a place beyond the file's length; then as the walk meets it, SHORT, BADLABEL, in version 1
  * BADLENGTH, OVERRUN with the label's place, or NOROW at the end of the file.
- * Writes: place and shown; shown is the row's length.
+ * Writes: shown, of which bytes is the row's length and nesting is absent.
  */
-crest_result crest_row_from_labelled(const uint8_t *file, size_t file_len, bool version_2, uint64_t from, uint64_t *place,
-                                     uint64_t *shown);
+crest_result crest_row_from_labelled(const uint8_t *file, size_t file_len, bool version_2, uint64_t from, crest_row *shown);
 
 /*
  * reader::row_from of a waveform file. Gives the whole row that begins, with its prefix, at the place from. To go through a file row by
- * row, begin at 0 and go on at place + shown of each row, until NOROW.
+ * row, begin at 0 and go on at place + bytes of each row, until NOROW.
  * Refuses: TOOBIG, RAGGED; NOROW where from is no multiple of 2,080, or at or beyond the end of the file.
- * Writes: place, which is from + 32, and shown, which is 2,048.
+ * Writes: shown, of which place is from + 32, bytes is 2,048 and nesting is known.
  */
-crest_result crest_row_from_waveform(const uint8_t *file, size_t file_len, uint64_t from, uint64_t *place, uint64_t *shown);
+crest_result crest_row_from_waveform(const uint8_t *file, size_t file_len, uint64_t from, crest_row *shown);
 
 /*
  * reader::row_from of a burst file. Gives the whole row that begins at the place from. To go through a file row by row, begin at
- * start and go on at place + shown of each row, until NOROW.
+ * start and go on at place + bytes of each row, until NOROW.
  * Refuses: TOOBIG, BADSTART, RAGGED; NOROW where from is in front of start, not a multiple of 1,272 behind it, or at or beyond
  * the end of the file.
- * Writes: place, which is from, and shown, which is 1,272.
+ * Writes: shown, of which place is from, bytes is 1,272 and nesting is known.
  */
-crest_result crest_row_from_bursts(const uint8_t *file, size_t file_len, uint64_t start, uint64_t from, uint64_t *place,
-                                   uint64_t *shown);
+crest_result crest_row_from_bursts(const uint8_t *file, size_t file_len, uint64_t start, uint64_t from, crest_row *shown);
 
 /* ---- The index of a labelled file ---- */
 

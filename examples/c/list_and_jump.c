@@ -1,6 +1,6 @@
 /*
  * Lists the rows of a labelled file with labels of version 1, then builds its index, jumps to a row and shows COUNT of its bytes,
- * from byte FIRST on:
+ * from byte FIRST on, and tells where the row's label stands:
  *
  *     cc -std=c11 -Wall -Wextra -Wpedantic -Iinclude examples/c/list_and_jump.c target/staticlib/libcapi.a -o list_and_jump
  *     ./list_and_jump crates/samples/data/volume_header.sfdu 1 10 7
@@ -61,16 +61,16 @@ static int list_rows(const lent_file *file)
 {
     uint64_t from = 0;
     for (uint64_t row = 0;; row++) {
-        uint64_t place, shown;
-        crest_result result = crest_row_from_labelled(file->bytes, file->length, false, from, &place, &shown);
+        crest_row shown;
+        crest_result result = crest_row_from_labelled(file->bytes, file->length, false, from, &shown);
         if (result.refusal == CREST_NOROW) {
             return DONE;
         }
         if (result.refusal != 0) {
             return refused(result);
         }
-        printf("row %" PRIu64 ": %" PRIu64 " bytes at %" PRIu64 "\n", row, shown, place);
-        from = place + shown;
+        printf("row %" PRIu64 ": %" PRIu64 " bytes at %" PRIu64 "\n", row, shown.bytes, shown.place);
+        from = shown.place + shown.bytes;
     }
 }
 
@@ -92,14 +92,28 @@ typedef struct wanted {
 /* Jumps to a row by the index, and prints where its window begins and the bytes that the window shows. */
 static int jump(const lent_file *file, const uint32_t *list, size_t entries, wanted part)
 {
-    uint64_t place, shown;
+    crest_row shown;
     crest_result result = crest_jump_labelled(file->bytes, file->length, false, list, entries, part.row, part.first,
-                                              part.count, &place, &shown);
+                                              part.count, &shown);
     if (result.refusal != 0) {
         return refused(result);
     }
-    printf("jump to row %" PRIu64 ": %" PRIu64 " bytes at %" PRIu64 ":", part.row, shown, place);
-    print_bytes(file->bytes + place, shown);
+    printf("jump to row %" PRIu64 ": %" PRIu64 " bytes at %" PRIu64 ":", part.row, shown.bytes, shown.place);
+    print_bytes(file->bytes + shown.place, shown.bytes);
+    return DONE;
+}
+
+/* Reads the same row from the file's first byte, and prints its address, which the jump knows only in part. */
+static int address(const lent_file *file, wanted part)
+{
+    crest_row shown;
+    crest_result result =
+        crest_read_row_labelled(file->bytes, file->length, false, part.row, part.first, part.count, &shown);
+    if (result.refusal != 0) {
+        return refused(result);
+    }
+    printf("its label is at %" PRIu64 ", at depth %" PRIu64 " in the object at %" PRIu64 "\n", shown.label, shown.depth,
+           shown.outermost);
     return DONE;
 }
 
@@ -125,7 +139,10 @@ static int show(const lent_file *file, wanted part)
         return refused(result);
     }
     int status = list_rows(file);
-    return status != DONE ? status : index_and_jump(file, rows, part);
+    if (status == DONE) {
+        status = index_and_jump(file, rows, part);
+    }
+    return status != DONE ? status : address(file, part);
 }
 
 static int show_file(const char *name, wanted part)

@@ -1,6 +1,7 @@
 -- The check of a file, and reading a row: too big, or the scan of all of it.
-use Prim.Native.Nat.{ℕ, _≤_, _<_}
-use mathlib.Core.Path.{_≡_, _∙_, sym, ap}
+use Prim.Native.Nat.{ℕ, _+_, _≤_, _<_}
+use native.Mathlib.Omega.{arith}
+use mathlib.Core.Path.{_≡_, refl, _∙_, sym, ap}
 use mathlib.Core.List.{List}
 use lib.ListN.{length}
 use borrow.Author.Tests.{le-leb, lt-leb, leb-true}
@@ -14,7 +15,7 @@ use Rattle.sfdu.specs.Row.{Row, whole}
 use Rattle.sfdu.specs.Scan.{scan}
 use Rattle.sfdu.specs.Check.{counting, rowsOfFile, checkLabelled}
 use Rattle.sfdu.specs.Find.{findRow}
-use Rattle.sfdu.specs.Private.{nothingSeen, seeAll, Searched}
+use Rattle.sfdu.specs.Private.{nothingSeen, seeAll, Searched, MarksInside}
 use Rattle.sfdu.specs.declared.Seen.{Seen}
 
 -- which versions of the label are allowed
@@ -37,9 +38,14 @@ module _ (versions : Versions) where
 
   -- the nested search of the whole file sees the file's rows
   pub whole-file : (f : List ℕ) (k : ℕ) (r : Outcome Seen) → length f ≤ largestFile → Searched versions f 0 8 (λ at. at) k nothingSeen r
-      → r ≡ mapped (seeAll k nothingSeen) (rowsOfFile versions f)
+      → (r ≡ mapped (seeAll k nothingSeen) (rowsOfFile versions f)) × MarksInside r
   unfolding scan
-  whole-file f k r h searched = searched .sees ∙ ap (mapped (seeAll k nothingSeen)) (sym (not-too-big f h))
+  whole-file f k r h searched =
+      (searched .sees ∙ ap (mapped (seeAll k nothingSeen)) (sym (not-too-big f h)), inside r (searched .few))
+    where
+      inside : (o : Outcome Seen) → ((s : Seen) → o ≡ answer s → (s .rows ≤ 0 + length f) × (s .mark .label ≤ 0 + length f)) → MarksInside o
+      inside (answer s) few = omega (arith, few s refl .1)
+      inside (refuse n p) few = tt
 
   -- a file whose rows are known: reading row k is taking the k-th of them
   pub reads-the-row : (f : List ℕ) (rows : List Row) → rowsOfFile versions f ≡ answer rows → (k : ℕ) → findRow versions f k ≡ mapped whole (nth rows k)

@@ -15,9 +15,10 @@ use Rattle.label.specs.declared.Label.{Label}
 use Rattle.sfdu.specs.Row.{Row}
 use Rattle.sfdu.specs.Scan.{Inside, object, rowsOf, level, objects}
 use Rattle.sfdu.specs.Private.{ObjectAt, seeRow, seeAll, Searched}
+use Rattle.sfdu.specs.declared.Mark.{Mark}
 use Rattle.sfdu.specs.declared.Seen.{Seen}
 use Rattle.sfdu.proofs.Steps.{at-the-end, bad-object, one-object}
-use Rattle.sfdu.proofs.Seeing.{seen-in-turn}
+use Rattle.sfdu.proofs.Seeing.{row-is-seen, row-is-passed, seen-in-turn}
 
 -- which versions of the label are allowed
 module _ (versions : Versions) where
@@ -58,6 +59,7 @@ module _ (versions : Versions) where
     pub record Sofar (at : ℕ) (seen : Seen) : Type 0 where
       pub within : at ≤ length part
       pub few : seen .rows ≤ base + at
+      pub low : seen .mark .label ≤ base + at
       pub found : List Row
       pub scanned : all ≡ siblings (base + at) found (drop at part)
       pub sees : seen ≡ seeAll k earlier found
@@ -70,25 +72,27 @@ module _ (versions : Versions) where
     }
 
     -- a search that came to the end
-    end-met : (found : List Row) (seen : Seen) → all ≡ answer found → seen ≡ seeAll k earlier found → seen .rows ≤ base + length part
+    end-met : (found : List Row) (seen : Seen) → all ≡ answer found → seen ≡ seeAll k earlier found
+        → (seen .rows ≤ base + length part) × (seen .mark .label ≤ base + length part)
         → Searched versions part base left outermost k earlier (answer seen)
     end-met found seen e is few = record {
       sees = ap answer is ∙ sym (ap (mapped (seeAll k earlier)) e);
-      few = λ s z. subst (λ (t : Seen). t .rows ≤ base + length part) (answer-injective z) few;
+      few = λ s z. subst (λ (t : Seen). (t .rows ≤ base + length part) × (t .mark .label ≤ base + length part)) (answer-injective z) few;
     }
 
-    pub starts : 0 < left → earlier .rows ≤ base → Sofar 0 earlier
-    starts h few = record {
+    pub starts : 0 < left → earlier .rows ≤ base → earlier .mark .label ≤ base → Sofar 0 earlier
+    starts h few low = record {
       within = omega arith;
       few = omega arith;
+      low = omega arith;
       found = [];
       scanned = objects-are-a-level left (9 - left) outermost base part h ∙ ap (λ (p : ℕ). siblings p [] part) (omega arith);
       sees = refl;
     }
 
-    pub no-bytes : length part ≡ 0 → earlier .rows ≤ base → Searched versions part base left outermost k earlier (answer earlier)
-    no-bytes h few =
-        end-met [] earlier (ap (objects versions left (9 - left) outermost base) (empty part h) ∙ nothing-to-scan left (9 - left) outermost base) refl (omega arith)
+    pub no-bytes : length part ≡ 0 → earlier .rows ≤ base → earlier .mark .label ≤ base → Searched versions part base left outermost k earlier (answer earlier)
+    no-bytes h few low =
+        end-met [] earlier (ap (objects versions left (9 - left) outermost base) (empty part h) ∙ nothing-to-scan left (9 - left) outermost base) refl (omega arith, omega arith)
       where
         empty : (s : List ℕ) → length s ≡ 0 → s ≡ []
         empty [] e = refl
@@ -104,7 +108,7 @@ module _ (versions : Versions) where
           end-met (sofar .found) seen
           (sofar .scanned ∙ ap (siblings (base + at) (sofar .found)) (drop-of-length-le part h)
           ∙ at-the-end versions (inner (left - 1) (9 - left)) (9 - left) outermost (base + at) (sofar .found) 0)
-          (sofar .sees) (omega (arith, sofar .few, sofar .within))
+          (sofar .sees) (omega (arith, sofar .few, sofar .within), omega (arith, sofar .low, sofar .within))
 
       module _ (more : at < length part) where
         left-over : 0 < length (drop at part)
@@ -160,25 +164,41 @@ module _ (versions : Versions) where
               end-is = omega (arith, o .ends)
 
         -- a leaf is one row more
-        pub leaf-passed : (end size top : ℕ) (r : Seen) → ObjectAt versions part at false end → size ≡ end - at - 20 → top ≡ outermost (base + at)
-            → r ≡ seeRow k seen (record { label = base + at; size = size; depth = 9 - left; outermost = top }) → Sofar end r
+        leaf-more : (end : ℕ) (o : ObjectAt versions part at false end) (r : Seen) → r .mark .label ≤ base + end
+            → r ≡ seeRow k seen (record { label = base + at; size = o .label .length; depth = 9 - left; outermost = outermost (base + at) }) → Sofar end r
         unfolding l
-        leaf-passed end size top r o size-is top-is r-is = record {
+        leaf-more end o r low is = record {
           within = o .inside;
-          few = omega (arith, sofar .few, o .ends, ap (λ (s : Seen). s .rows) r-is);
+          few = omega (arith, sofar .few, o .ends, ap (λ (s : Seen). s .rows) is);
+          low = low;
           found = sofar .found ++ (row ∷ []);
-          scanned =
-              sofar .scanned ∙ goes-on false end o (sofar .found)
-              ∙ ap₂ (λ (n t : ℕ). siblings (base + end) (sofar .found ++ (record { label = base + at; size = n; depth = 9 - left; outermost = t } ∷ [])) (drop end part))
-              length-is (sym top-is);
-          sees = r-is ∙ ap (λ (s : Seen). seeRow k s row) (sofar .sees) ∙ sym (seen-in-turn k (sofar .found) (row ∷ []) earlier);
+          scanned = sofar .scanned ∙ goes-on false end o (sofar .found);
+          sees = is ∙ ap (λ (s : Seen). seeRow k s row) (sofar .sees) ∙ sym (seen-in-turn k (sofar .found) (row ∷ []) earlier);
         }
           where
             row : Row
-            row = record { label = base + at; size = size; depth = 9 - left; outermost = top }
+            row = record { label = base + at; size = o .label .length; depth = 9 - left; outermost = outermost (base + at) }
 
-            length-is : o .label .length ≡ size
+        -- the one that is looked for, or another
+        pub leaf-found : (end size top : ℕ) (mark : Mark) → ObjectAt versions part at false end → size ≡ end - at - 20 → top ≡ outermost (base + at)
+            → seen .rows ≡ k → mark ≡ record { label = base + at; size = size; depth = 9 - left; outermost = top }
+            → Sofar end (record { rows = seen .rows + 1; mark = mark })
+        leaf-found end size top mark o size-is top-is h is =
+            leaf-more end o (record { rows = seen .rows + 1; mark = mark })
+            (omega (arith, ap (λ (m : Mark). m .label) is, o .ends))
+            (ap (λ (m : Mark). record { rows = seen .rows + 1; mark = m })
+            (is ∙ ap₂ (λ (n t : ℕ). record { label = base + at; size = n; depth = 9 - left; outermost = t }) length-is top-is)
+            ∙ row-is-seen k seen _ h)
+          where
+            length-is : size ≡ o .label .length
             length-is = omega (arith, o .ends)
+
+        pub leaf-passed : (end : ℕ) (mark : Mark) → ObjectAt versions part at false end → (seen .rows ≡ k → ⊥) → mark ≡ seen .mark
+            → Sofar end (record { rows = seen .rows + 1; mark = mark })
+        leaf-passed end mark o h is =
+            leaf-more end o (record { rows = seen .rows + 1; mark = mark })
+            (omega (arith, ap (λ (m : Mark). m .label) is, sofar .low, o .ends))
+            (ap (λ (m : Mark). record { rows = seen .rows + 1; mark = m }) is ∙ row-is-passed k seen _ h)
 
         -- an opened object is the rows inside it more, or what is wrong there
         module _ (end top : ℕ) (o : ObjectAt versions part at true end) (top-is : top ≡ outermost (base + at)) (some : 0 < left) (most : left ≤ 8) where
@@ -201,15 +221,19 @@ module _ (versions : Versions) where
               place-is : base + at + 20 ≡ base + (at + 20)
               place-is = omega arith
 
-          few-inside : (s : Seen) → Inner (answer s) → s .rows ≤ base + end
-          few-inside s inner-seen = omega (arith, inner-seen .few s refl, value-size true end o, o .ends)
+          few-inside : (s : Seen) → Inner (answer s) → (s .rows ≤ base + end) × (s .mark .label ≤ base + end)
+          few-inside s inner-seen =
+              let (few, low) = inner-seen .few s refl in
+              let size = value-size true end o in
+              (omega (arith, few, size, o .ends), omega (arith, low, size, o .ends))
 
           pub group-passed : (s : Seen) → Inner (answer s) → Sofar end s
           group-passed s inner-seen =
               let (rs, rows-are, is) = mapped-answer (seeAll k seen) _ s (sym (inner-seen .sees)) in
               record {
                 within = o .inside;
-                few = few-inside s inner-seen;
+                few = few-inside s inner-seen .0;
+                low = few-inside s inner-seen .1;
                 found = sofar .found ++ rs;
                 scanned = inside-is (answer rs) rows-are;
                 sees = sym is ∙ ap (λ (t : Seen). seeAll k t rs) (sofar .sees) ∙ sym (seen-in-turn k (sofar .found) rs earlier);

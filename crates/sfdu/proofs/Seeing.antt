@@ -11,16 +11,17 @@ use Rattle.answer.specs.Nth.{nth}
 use Rattle.answer.proofs.Outcomes.{answer-injective, answer-is-no-refusal, mapped-answer, refused-first, after-answer, after-refusal}
 use Rattle.answer.proofs.Nths.{nth-is-there, nth-is-not}
 use Rattle.sfdu.specs.Row.{Row, whole}
-use Rattle.sfdu.specs.Private.{either, nothingSeen, seeRow, seeAll}
+use Rattle.sfdu.specs.Private.{markOf, rowMarked, either, nothingSeen, seeRow, seeAll}
+use Rattle.sfdu.specs.declared.Mark.{Mark}
 use Rattle.sfdu.specs.declared.Seen.{Seen}
 
 module _ (k : ℕ) where
   -- one row more: the one that is looked for, or another
-  pub row-is-seen : (s : Seen) (r : Row) → s .rows ≡ k → record { rows = s .rows + 1; row = whole r } ≡ seeRow k s r
-  row-is-seen s r h = sym (ap (λ t. record { rows = s .rows + 1; row = either t (whole r) (s .row) }) (eq-eqb (s .rows) k h))
+  pub row-is-seen : (s : Seen) (r : Row) → s .rows ≡ k → record { rows = s .rows + 1; mark = markOf r } ≡ seeRow k s r
+  row-is-seen s r h = sym (ap (λ t. record { rows = s .rows + 1; mark = either t (markOf r) (s .mark) }) (eq-eqb (s .rows) k h))
 
-  pub row-is-passed : (s : Seen) (r : Row) → (s .rows ≡ k → ⊥) → record { rows = s .rows + 1; row = s .row } ≡ seeRow k s r
-  row-is-passed s r h = sym (ap (λ t. record { rows = s .rows + 1; row = either t (whole r) (s .row) }) (ne-eqb (s .rows) k h))
+  pub row-is-passed : (s : Seen) (r : Row) → (s .rows ≡ k → ⊥) → record { rows = s .rows + 1; mark = s .mark } ≡ seeRow k s r
+  row-is-passed s r h = sym (ap (λ t. record { rows = s .rows + 1; mark = either t (markOf r) (s .mark) }) (ne-eqb (s .rows) k h))
 
   -- some rows and then more are all of them
   pub seen-in-turn : (xs ys : List Row) (s : Seen) → seeAll k s (xs ++ ys) ≡ seeAll k (seeAll k s xs) ys
@@ -32,17 +33,17 @@ module _ (k : ℕ) where
   seen-count (r ∷ rs) s = seen-count rs (seeRow k s r) ∙ omega arith
 
   -- a row that was seen stays
-  seen-stays : (rs : List Row) (s : Seen) → k < s .rows → seeAll k s rs .row ≡ s .row
+  seen-stays : (rs : List Row) (s : Seen) → k < s .rows → seeAll k s rs .mark ≡ s .mark
   seen-stays [] s h = refl
-  seen-stays (r ∷ rs) s h = seen-stays rs (seeRow k s r) (omega arith) ∙ ap (λ t. either t (whole r) (s .row)) (ne-eqb (s .rows) k (λ e. absurd (omega (arith, e))))
+  seen-stays (r ∷ rs) s h = seen-stays rs (seeRow k s r) (omega arith) ∙ ap (λ t. either t (markOf r) (s .mark)) (ne-eqb (s .rows) k (λ e. absurd (omega (arith, e))))
 
   -- row k is seen when its turn comes
-  seen-row : (rs : List Row) (s : Seen) (j : ℕ) (r : Row) → k ≡ s .rows + j → nth rs j ≡ answer r → seeAll k s rs .row ≡ whole r
+  seen-row : (rs : List Row) (s : Seen) (j : ℕ) (r : Row) → k ≡ s .rows + j → nth rs j ≡ answer r → seeAll k s rs .mark ≡ markOf r
   seen-row [] s j r h e = absurd (answer-is-no-refusal (sym e))
   seen-row (x ∷ rs) s zero r h e =
       seen-stays rs (seeRow k s x) (omega arith)
-      ∙ ap (λ t. either t (whole x) (s .row)) (eq-eqb (s .rows) k (omega arith))
-      ∙ ap whole (answer-injective e)
+      ∙ ap (λ t. either t (markOf x) (s .mark)) (eq-eqb (s .rows) k (omega arith))
+      ∙ ap markOf (answer-injective e)
   seen-row (x ∷ rs) s (suc j) r h e = seen-row rs (seeRow k s x) j r (omega arith) e
 
   all-counted : (rows : List Row) → seeAll k nothingSeen rows .rows ≡ length rows
@@ -58,12 +59,12 @@ module _ (k : ℕ) where
         let (rows, is, sees) = seen-rows in
         ap answer (ap (λ (t : Seen). t .rows) (sym sees) ∙ all-counted rows) ∙ sym (ap (mapped length) is)
 
-    pub finds-the-row : k < s .rows → answer (s .row) ≡ andThen o (λ rows. mapped whole (nth rows k))
+    pub finds-the-row : k < s .rows → answer (whole (rowMarked (s .mark))) ≡ andThen o (λ rows. mapped whole (nth rows k))
     finds-the-row h =
         let (rows, is, sees) = seen-rows in
         let many : s .rows ≡ length rows = ap (λ (t : Seen). t .rows) (sym sees) ∙ all-counted rows in
         let (r, there) = nth-is-there rows k (omega (arith, many)) in
-        ap answer (ap (λ (t : Seen). t .row) (sym sees) ∙ seen-row rows nothingSeen k r (omega arith) there)
+        ap (λ (m : Mark). answer (whole (rowMarked m))) (ap (λ (t : Seen). t .mark) (sym sees) ∙ seen-row rows nothingSeen k r (omega arith) there)
         ∙ sym (after-answer o (λ rs. mapped whole (nth rs k)) rows is ∙ ap (mapped whole) there)
 
     pub finds-no-row : s .rows ≤ k → refuse 6 0 ≡ andThen o (λ rows. mapped whole (nth rows k))

@@ -7,18 +7,18 @@ use lib.ListN.{length, drop}
 use lib.Dec.{eqb}
 use Rattle.answer.specs.Outcome.{Outcome, answer, refuse, mapped}
 use Rattle.answer.specs.Refusal.{numberOf}
-use Rattle.answer.specs.declared.Shown.{Shown}
-use Rattle.answer.specs.declared.Nesting.the-variants.{Absent}
+use Rattle.answer.specs.Size.{largestFile}
 use Rattle.label.specs.declared.Label.{Label}
 use Rattle.label.specs.declared.Versions.{Versions}
 use Rattle.label.specs.Head.{labelSize}
 use Rattle.label.specs.Opened.{isOpened}
-use Rattle.sfdu.specs.Row.{Row, whole}
+use Rattle.sfdu.specs.Row.{Row}
 use Rattle.sfdu.specs.Scan.{object, objects}
 use Rattle.sfdu.specs.declared.Object.{Object}
 use Rattle.sfdu.specs.declared.Object.the-variants.{Leaf, Group, Fault}
 use Rattle.sfdu.specs.declared.Outer.{Outer}
 use Rattle.sfdu.specs.declared.Outer.the-variants.{Itself, At}
+use Rattle.sfdu.specs.declared.Mark.{Mark}
 use Rattle.sfdu.specs.declared.Seen.{Seen}
 use Rattle.sfdu.specs.declared.Search.{Search}
 use Rattle.sfdu.specs.declared.Search.the-variants as search
@@ -28,16 +28,23 @@ abbrev pub outermostBy : Outer → ℕ → ℕ
 outermostBy Itself = λ at. at
 outermostBy (At top) = λ _. top
 
-abbrev pub either : Bool → Shown → Shown → Shown
+-- a row as the struct `Mark`, and back
+abbrev pub markOf : Row → Mark
+markOf r = record { label = r .label; size = r .size; depth = r .depth; outermost = r .outermost }
+
+abbrev pub rowMarked : Mark → Row
+rowMarked m = record { label = m .label; size = m .size; depth = m .depth; outermost = m .outermost }
+
+abbrev pub either : Bool → Mark → Mark → Mark
 either true x y = x
 either false x y = y
 
 -- what a search for row k has seen: before the first row, with one row more, and with these rows more
 abbrev pub nothingSeen : Seen
-nothingSeen = record { rows = 0; row = record { part = record { place = 0; count = 0 }; address = record { label = 0; nesting = Absent } } }
+nothingSeen = record { rows = 0; mark = record { label = 0; size = 0; depth = 0; outermost = 0 } }
 
 abbrev pub seeRow : ℕ → Seen → Row → Seen
-seeRow k s r = record { rows = s .rows + 1; row = either (eqb (s .rows) k) (whole r) (s .row) }
+seeRow k s r = record { rows = s .rows + 1; mark = either (eqb (s .rows) k) (markOf r) (s .mark) }
 
 abbrev pub seeAll : ℕ → Seen → List Row → Seen
 seeAll k s [] = s
@@ -47,6 +54,11 @@ seeAll k s (r ∷ rs) = seeAll k (seeRow k s r) rs
 abbrev pub searched : Search → Outcome Seen
 searched (search.Is seen) = answer seen
 searched (search.Fault why place) = refuse (numberOf why) place
+
+-- what was seen was marked inside a file
+abbrev pub MarksInside : Outcome Seen → Type 0
+MarksInside (answer s) = s .mark .label ≤ largestFile
+MarksInside (refuse n p) = Unit
 
 -- which versions of the label are allowed
 module _ (versions : Versions) where
@@ -65,7 +77,7 @@ module _ (versions : Versions) where
   Stands part at (Fault why) = (place : ℕ) × (object versions (drop at part) ≡ refuse (numberOf why) place)
 
   -- the nested search of a part of the file from place `base` on, with `left` more depths allowed: it has seen the scan's rows, or
-  -- met its fault; and there are no more rows than bytes
+  -- met its fault; and there are no more rows than bytes, and none is marked behind them
   pub record Searched (part : List ℕ) (base left : ℕ) (outermost : ℕ → ℕ) (k : ℕ) (earlier : Seen) (result : Outcome Seen) : Type 0 where
     pub sees : result ≡ mapped (seeAll k earlier) (objects versions left (9 - left) outermost base part)
-    pub few : (s : Seen) → result ≡ answer s → s .rows ≤ base + length part
+    pub few : (s : Seen) → result ≡ answer s → (s .rows ≤ base + length part) × (s .mark .label ≤ base + length part)

@@ -19,8 +19,9 @@ ghost use Rattle.answer.specs.Size.{largestFile};
 ghost use Rattle.answer.specs.Window.{shown};
 ghost use Rattle.answer.specs.Outcome.{mapped};
 ghost use Rattle.sfdu.specs.Check.{rowsOfFile, checkLabelled};
+ghost use Rattle.sfdu.specs.Row.{whole};
 ghost use Rattle.sfdu.specs.Find.{findRow};
-ghost use Rattle.sfdu.specs.Private.{Stands, outermostBy, nothingSeen, seeRow, seeAll, searched, Searched};
+ghost use Rattle.sfdu.specs.Private.{Stands, outermostBy, rowMarked, nothingSeen, seeAll, searched, Searched, MarksInside};
 
 // The depths at which labels may stand.
 const DEPTHS: usize = 8;
@@ -55,10 +56,18 @@ fn object_at(versions: Versions, part: &[u8], at: usize) -> Object
     }
 }
 
+// A row that a search has marked: its label's place, its size, its depth, its outermost object's place.
+struct Mark {
+    label: usize,
+    size: usize,
+    depth: usize,
+    outermost: usize,
+}
+
 // What a search for row `k` has seen: how many rows, and row `k` once it is one of them.
 struct Seen {
     rows: usize,
-    row: Shown,
+    mark: Mark,
 }
 
 // What a search has seen at its end, or the fault that it met.
@@ -83,32 +92,6 @@ fn outermost(outer: Outer, place: usize) -> usize
     }
 }
 
-// What is seen with one leaf more, whose label stands at `place`.
-fn see_leaf(seen: Seen, k: usize, place: usize, size: usize, depth: usize, top: usize) -> Seen
-    requires { ⌜ (seen .rows ≤ largestFile) × (place ≤ largestFile) ⌝ }
-    ensures { λ r. ⌜ r ≡ seeRow k seen (record { label = place; size = size; depth = depth; outermost = top }) ⌝ }
-{
-    let rows = seen.rows + 1;
-    if seen.rows == k {
-        let value = place + label::LABEL;
-        return Seen {
-            rows,
-            row: Shown {
-                part: Part {
-                    place: value,
-                    count: size,
-                },
-                address: Address {
-                    label: place,
-                    nesting: Nesting::Known(depth, top),
-                },
-            },
-        };
-    }
-    let row = seen.row;
-    Seen { rows, row }
-}
-
 // Searches a part of a file, from place `base` on, for row `k`, with `left` more depths allowed, to the
 // part's end or to its first fault: siblings by the loop, what is inside an object by a call on its
 // value.
@@ -121,7 +104,7 @@ fn search_part(
     k: usize,
     earlier: Seen,
 ) -> Search
-    requires { ⌜ (base + length (now part) ≤ largestFile) × (left ≤ 8) × (earlier .rows ≤ base) ⌝ }
+    requires { ⌜ (base + length (now part) ≤ largestFile) × (left ≤ 8) × (earlier .rows ≤ base) × (earlier .mark .label ≤ base) ⌝ }
     ensures { λ r. ⌜ Searched versions (now (part .entry)) base left (outermostBy outer) k earlier (searched r) ⌝ }
 {
     if part.len() == 0 {
@@ -130,9 +113,9 @@ fn search_part(
     if left == 0 {
         return Search::Fault(Refusal::Deep, base);
     }
-    let depth = DEPTHS + 1 - left;
     let mut at: usize = 0;
-    let mut seen = earlier;
+    let mut rows = earlier.rows;
+    let mut mark = earlier.mark;
     while at < part.len() {
         let place = base + at;
         match object_at(versions, part, at) {
@@ -140,41 +123,52 @@ fn search_part(
                 return Search::Fault(why, place);
             }
             Object::Leaf(next) => {
-                let size = next - at - label::LABEL;
-                let top = outermost(outer, place);
-                seen = see_leaf(seen, k, place, size, depth, top);
+                if rows == k {
+                    let size = next - at - label::LABEL;
+                    let depth = DEPTHS + 1 - left;
+                    let top = outermost(outer, place);
+                    mark = Mark {
+                        label: place,
+                        size,
+                        depth,
+                        outermost: top,
+                    };
+                }
+                rows += 1;
                 at = next;
             }
             Object::Group(end) => {
                 let body = at + label::LABEL;
                 let inside = base + body;
                 let top = Outer::At(outermost(outer, place));
+                let seen = Seen { rows, mark };
                 match search_part(versions, &part[body..end], inside, left - 1, top, k, seen) {
                     Search::Fault(why, where_) => {
                         return Search::Fault(why, where_);
                     }
                     Search::Is(more) => {
-                        seen = more;
+                        rows = more.rows;
+                        mark = more.mark;
                         at = end;
                     }
                 }
             }
         }
     }
-    Search::Is(seen)
+    Search::Is(Seen { rows, mark })
 }
 
 // Searches a whole file, which is not too big, for row `k`.
 fn search_file(versions: Versions, file: &[u8], k: usize) -> Search
     requires { ⌜ length (now file) ≤ largestFile ⌝ }
-    ensures { λ r. ⌜ searched r ≡ mapped (seeAll k nothingSeen) (rowsOfFile versions (now (file .entry))) ⌝ }
+    ensures { λ r. ⌜ (searched r ≡ mapped (seeAll k nothingSeen) (rowsOfFile versions (now (file .entry)))) × MarksInside (searched r) ⌝ }
 {
-    let part = Part { place: 0, count: 0 };
-    let address = Address {
+    let mark = Mark {
         label: 0,
-        nesting: Nesting::Absent,
+        size: 0,
+        depth: 0,
+        outermost: 0,
     };
-    let row = Shown { part, address };
     search_part(
         versions,
         file,
@@ -182,7 +176,7 @@ fn search_file(versions: Versions, file: &[u8], k: usize) -> Search
         DEPTHS,
         Outer::Itself,
         k,
-        Seen { rows: 0, row },
+        Seen { rows: 0, mark },
     )
 }
 
@@ -199,6 +193,24 @@ pub fn check(versions: Versions, file: &[u8]) -> Count
     }
 }
 
+// The row that was marked, whole.
+fn marked_row(mark: Mark) -> Shown
+    requires { ⌜ mark .label ≤ largestFile ⌝ }
+    ensures { λ r. ⌜ r ≡ whole (rowMarked mark) ⌝ }
+{
+    let place = mark.label + label::LABEL;
+    Shown {
+        part: Part {
+            place,
+            count: mark.size,
+        },
+        address: Address {
+            label: mark.label,
+            nesting: Nesting::Known(mark.depth, mark.outermost),
+        },
+    }
+}
+
 // Row `k` of a labelled file, whole, read from the first byte in one pass, which also checks the file;
 // 6 where there is no such row.
 pub fn find_row(versions: Versions, file: &[u8], k: usize) -> Show
@@ -210,8 +222,8 @@ pub fn find_row(versions: Versions, file: &[u8], k: usize) -> Show
     match search_file(versions, file, k) {
         Search::Is(seen) => {
             if k < seen.rows {
-                let row = seen.row;
-                return Show::Is(row);
+                let mark = seen.mark;
+                return Show::Is(marked_row(mark));
             }
             Show::Refused(Refusal::NoRow, 0)
         }

@@ -4,7 +4,7 @@
 mod inputs;
 mod plain;
 
-use crestulbino::{Beams, Field, Kind, Verdict, Versions, Window};
+use crestulbino::{Beams, Field, Kind, Row, Verdict, Versions, Window};
 use inputs::{
     Numbers, BINARY, BURST_ROWS, BURST_START, DIGITS, ROWS, SPACES_AND_DIGITS, WAVEFORM_ROWS,
 };
@@ -70,6 +70,11 @@ fn main() {
 fn labelled_calls(of: &str, versions: Versions, file: &[u8], rows: &[usize]) {
     let version_2 = version_2(versions);
     check_labelled(&format!("check labelled{of}, a row"), versions, file);
+    read_labelled(
+        &format!("read_row labelled{of}, a row of the file"),
+        versions,
+        file,
+    );
     let (mut one, mut other) = (vec![1; ROWS], vec![1; ROWS]);
     compare(
         &format!("build_index{of}, a row"),
@@ -94,13 +99,13 @@ fn labelled_calls(of: &str, versions: Versions, file: &[u8], rows: &[usize]) {
         || {
             sum(rows, |row| {
                 let row = crestulbino::jump_labelled(versions, file, list, row, EMPTY);
-                row.map_or(0, |row| row.place)
+                row.map_or(0, told)
             })
         },
         || {
             sum(rows, |row| {
                 let row = plain::jump_labelled(file, version_2, list, row, 0, 0);
-                row.map_or(0, |(place, _)| place)
+                row.map_or(0, plainly_told)
             })
         },
     );
@@ -108,6 +113,37 @@ fn labelled_calls(of: &str, versions: Versions, file: &[u8], rows: &[usize]) {
         &format!("row_from{of} row after row, a row"),
         versions,
         file,
+    );
+}
+
+/// The place and all parts of the address of a row.
+fn told(row: Row<'_>) -> usize {
+    let nesting = row.address.nesting;
+    let nesting = nesting.map_or(9, |nesting| nesting.depth + nesting.outermost);
+    row.place + row.address.label + nesting
+}
+
+fn plainly_told(row: plain::Row<'_>) -> usize {
+    let nesting = row
+        .nesting
+        .map_or(9, |(depth, outermost)| depth + outermost);
+    row.place + row.label + nesting
+}
+
+/// A row in the middle of the file; whichever it is, all of the file is passed.
+fn read_labelled(name: &str, versions: Versions, file: &[u8]) {
+    let version_2 = version_2(versions);
+    compare(
+        name,
+        ROWS,
+        || {
+            let row = black_box(ROWS / 2);
+            crestulbino::read_row(Kind::Labelled(versions), file, row, EMPTY).map_or(0, told)
+        },
+        || {
+            let row = black_box(ROWS / 2);
+            plain::read_row_labelled(file, version_2, row, 0, 0).map_or(0, plainly_told)
+        },
     );
 }
 
@@ -137,8 +173,8 @@ fn row_after_row(name: &str, versions: Versions, file: &[u8]) {
         },
         || {
             let (mut from, mut rows) = (0, 0);
-            while let Ok((place, bytes)) = plain::row_from(black_box(file), version_2, from) {
-                from = place + bytes.len();
+            while let Ok(row) = plain::row_from(black_box(file), version_2, from) {
+                from = row.place + row.bytes.len();
                 rows += 1;
             }
             rows
@@ -181,12 +217,12 @@ fn waveform_calls(file: &[u8], rows: &[usize]) {
         REPEATS,
         || {
             sum(&[last; REPEATS], |row| {
-                crestulbino::read_row(Kind::Waveform, file, row, EMPTY).map_or(0, |row| row.place)
+                crestulbino::read_row(Kind::Waveform, file, row, EMPTY).map_or(0, told)
             })
         },
         || {
             sum(&[last; REPEATS], |row| {
-                plain::read_row_waveform(file, row, 0, 0).map_or(0, |(place, _)| place)
+                plain::read_row_waveform(file, row, 0, 0).map_or(0, plainly_told)
             })
         },
     );
@@ -195,12 +231,12 @@ fn waveform_calls(file: &[u8], rows: &[usize]) {
         rows.len(),
         || {
             sum(rows, |row| {
-                crestulbino::jump_waveform(file, row, EMPTY).map_or(0, |row| row.place)
+                crestulbino::jump_waveform(file, row, EMPTY).map_or(0, told)
             })
         },
         || {
             sum(rows, |row| {
-                plain::jump_waveform(file, row, 0, 0).map_or(0, |(place, _)| place)
+                plain::jump_waveform(file, row, 0, 0).map_or(0, plainly_told)
             })
         },
     );
@@ -214,12 +250,12 @@ fn burst_rows(file: &[u8], rows: &[usize]) {
         REPEATS,
         || {
             sum(&[last; REPEATS], |row| {
-                crestulbino::read_row(kind, file, row, EMPTY).map_or(0, |row| row.place)
+                crestulbino::read_row(kind, file, row, EMPTY).map_or(0, told)
             })
         },
         || {
             sum(&[last; REPEATS], |row| {
-                plain::read_row_bursts(file, BURST_START, row, 0, 0).map_or(0, |(place, _)| place)
+                plain::read_row_bursts(file, BURST_START, row, 0, 0).map_or(0, plainly_told)
             })
         },
     );
@@ -228,12 +264,12 @@ fn burst_rows(file: &[u8], rows: &[usize]) {
         rows.len(),
         || {
             sum(rows, |row| {
-                crestulbino::jump_bursts(file, BURST_START, row, EMPTY).map_or(0, |row| row.place)
+                crestulbino::jump_bursts(file, BURST_START, row, EMPTY).map_or(0, told)
             })
         },
         || {
             sum(rows, |row| {
-                plain::jump_bursts(file, BURST_START, row, 0, 0).map_or(0, |(place, _)| place)
+                plain::jump_bursts(file, BURST_START, row, 0, 0).map_or(0, plainly_told)
             })
         },
     );
@@ -251,8 +287,8 @@ fn burst_rows(file: &[u8], rows: &[usize]) {
         || {
             let (mut from, mut rows) = (BURST_START, 0);
             let next = |from| plain::row_from_bursts(black_box(file), BURST_START, from);
-            while let Ok((place, bytes)) = next(from) {
-                from = place + bytes.len();
+            while let Ok(row) = next(from) {
+                from = row.place + row.bytes.len();
                 rows += 1;
             }
             rows

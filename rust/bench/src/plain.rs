@@ -147,12 +147,24 @@ pub fn check(file: &[u8], version_2: bool) -> Result<usize, Fault> {
     }
 }
 
-/// A leaf: the places of its label and of its value, and the value's length.
+/// A row before a window is taken of it: the places of its label and of its value, the value's length,
+/// and where they are known its depth and the place of its outermost object.
 #[derive(Clone, Copy)]
 struct Leaf {
     label: usize,
     value: usize,
     length: usize,
+    nesting: Option<(usize, usize)>,
+}
+
+/// A row without a label.
+fn unlabelled(place: usize, length: usize) -> Leaf {
+    Leaf {
+        label: place,
+        value: place,
+        length,
+        nesting: Some((0, place)),
+    }
 }
 
 /// The leaves from a place on, with no memory of depth.
@@ -187,6 +199,7 @@ impl Iterator for Leaves<'_> {
                 label: place,
                 value,
                 length,
+                nesting: None,
             }));
         }
     }
@@ -238,15 +251,85 @@ pub fn check_index(file: &[u8], version_2: bool, list: &[u32]) -> Result<(), Fau
     }
 }
 
-/// The place of a window of a row, and the bytes that it shows.
-type Shown<'a> = Result<(usize, &'a [u8]), Fault>;
+/// What a window shows of a row: its place, its bytes, and the row's address.
+pub struct Row<'a> {
+    pub place: usize,
+    pub bytes: &'a [u8],
+    pub label: usize,
+    pub nesting: Option<(usize, usize)>,
+}
 
-fn window(file: &[u8], row: usize, length: usize, first: usize, count: usize) -> Shown<'_> {
-    if first > length || count > length - first {
+type Shown<'a> = Result<Row<'a>, Fault>;
+
+fn window(file: &[u8], row: Leaf, first: usize, count: usize) -> Shown<'_> {
+    if first > row.length || count > row.length - first {
         return Err((7, 0));
     }
-    let place = row + first;
-    Ok((place, &file[place..place + count]))
+    let place = row.value + first;
+    Ok(Row {
+        place,
+        bytes: &file[place..place + count],
+        label: row.label,
+        nesting: row.nesting,
+    })
+}
+
+/// Reads a window of a row of a labelled file in one pass from its first byte.
+#[inline(never)]
+pub fn read_row_labelled(
+    file: &[u8],
+    version_2: bool,
+    row: usize,
+    first: usize,
+    count: usize,
+) -> Shown<'_> {
+    check_size(file)?;
+    let mut outer_ends = [0; DEEPEST];
+    let mut depth = 0;
+    let mut end = file.len();
+    let mut place = 0;
+    let mut outermost = 0;
+    let mut rows = 0;
+    let mut wanted = None;
+    loop {
+        while place == end {
+            if depth == 0 {
+                let wanted = wanted.ok_or((6, 0))?;
+                return window(file, wanted, first, count);
+            }
+            depth -= 1;
+            end = outer_ends[depth];
+        }
+        if depth == DEEPEST {
+            return Err((5, place));
+        }
+        if depth == 0 {
+            outermost = place;
+        }
+        let label = label(&file[place..end], version_2);
+        let (is_group, length) = label.map_err(|number| (number, place))?;
+        let value = place + LABEL;
+        if length > end - value {
+            return Err((4, place));
+        }
+        if is_group {
+            outer_ends[depth] = end;
+            depth += 1;
+            end = value + length;
+            place = value;
+        } else {
+            if rows == row {
+                wanted = Some(Leaf {
+                    label: place,
+                    value,
+                    length,
+                    nesting: Some((depth + 1, outermost)),
+                });
+            }
+            rows += 1;
+            place = value + length;
+        }
+    }
 }
 
 /// Reads a window of a row of a labelled file by its index.
@@ -270,7 +353,7 @@ pub fn jump_labelled<'a>(
         leaves.next().ok_or((6, 0))??;
     }
     let leaf = leaves.next().ok_or((6, 0))??;
-    window(file, leaf.value, leaf.length, first, count)
+    window(file, leaf, first, count)
 }
 
 /// Gives the first row from a place on, whole.
@@ -278,7 +361,7 @@ pub fn jump_labelled<'a>(
 pub fn row_from(file: &[u8], version_2: bool, from: usize) -> Shown<'_> {
     check_size(file)?;
     let leaf = leaves(file, version_2, from).next().ok_or((6, 0))??;
-    window(file, leaf.value, leaf.length, 0, leaf.length)
+    window(file, leaf, 0, leaf.length)
 }
 
 fn check_waveform(file: &[u8]) -> Result<usize, Fault> {
@@ -294,7 +377,7 @@ fn check_waveform(file: &[u8]) -> Result<usize, Fault> {
 pub fn read_row_waveform(file: &[u8], row: usize, first: usize, count: usize) -> Shown<'_> {
     check_waveform(file)?;
     let place = pass_rows(file, 0, RECORD, row)?;
-    window(file, place + PREFIX, SAMPLES, first, count)
+    window(file, unlabelled(place + PREFIX, SAMPLES), first, count)
 }
 
 /// Where a row starts, found by passing the rows in front of it. The compiler is not told how long
@@ -320,7 +403,12 @@ pub fn jump_waveform(file: &[u8], row: usize, first: usize, count: usize) -> Sho
     if row >= check_waveform(file)? {
         return Err((6, 0));
     }
-    window(file, row * RECORD + PREFIX, SAMPLES, first, count)
+    window(
+        file,
+        unlabelled(row * RECORD + PREFIX, SAMPLES),
+        first,
+        count,
+    )
 }
 
 const BURST: usize = 1_272;
@@ -345,13 +433,14 @@ pub fn read_row_bursts(
 ) -> Shown<'_> {
     check_bursts(file, start)?;
     let place = pass_rows(file, start, BURST, row)?;
-    window(file, place, BURST, first, count)
+    window(file, unlabelled(place, BURST), first, count)
 }
 
 /// Reads a window of a row of a burst file at its computed place.
 #[inline(never)]
 pub fn jump_bursts(file: &[u8], start: usize, row: usize, first: usize, count: usize) -> Shown<'_> {
-    window(file, burst(file, start, row)?, BURST, first, count)
+    let place = burst(file, start, row)?;
+    window(file, unlabelled(place, BURST), first, count)
 }
 
 /// Gives the row of a burst file that begins at a place.
@@ -362,7 +451,7 @@ pub fn row_from_bursts(file: &[u8], start: usize, from: usize) -> Shown<'_> {
     if !is_row {
         return Err((6, 0));
     }
-    window(file, from, BURST, 0, BURST)
+    window(file, unlabelled(from, BURST), 0, BURST)
 }
 
 /// The place of a row of a burst file.

@@ -1,7 +1,7 @@
 //! Fields of short bursts, verdicts on them, beam masks and compression modes.
 
 use crate::ffi;
-use crate::file::{shown, Row};
+use crate::file::part;
 use crate::numbers::Verdict;
 use crate::refusal::{other_version, Refused};
 
@@ -23,7 +23,16 @@ pub enum Field<'a> {
     /// The stored bits of a float of 8 bytes.
     Float8(u64),
     /// A text of 16 or 24 bytes, with its place in the file.
-    Text(Row<'a>),
+    Text(Text<'a>),
+}
+
+/// A text in a burst.
+#[derive(Clone, Copy, Debug, PartialEq, Eq, Hash)]
+pub struct Text<'a> {
+    /// The place of its first byte in the file.
+    pub place: usize,
+    /// Its bytes, borrowed from the file.
+    pub bytes: &'a [u8],
 }
 
 impl Field<'_> {
@@ -78,16 +87,20 @@ pub fn burst_field(
     position: u64,
 ) -> Result<Field<'_>, Refused> {
     let (start, row) = (start as u64, row as u64);
-    let (mut of, mut bits) = (0, 0);
-    let text = shown(file, |place, shown| {
-        ffi::burst_field(file, start, row, position, &mut of, &mut bits, place, shown)
-    })?;
+    let (mut of, mut bits, mut place, mut shown) = (0, 0, 0, 0);
+    ffi::burst_field(
+        file, start, row, position, &mut of, &mut bits, &mut place, &mut shown,
+    )
+    .result()?;
     Ok(match of {
         0 => Field::Unsigned(bits),
         1 => Field::Signed(bits as i64),
         2 => Field::Float4(bits.try_into().unwrap_or_else(|_| other_version())),
         3 => Field::Float8(bits),
-        4 => Field::Text(text),
+        4 => Field::Text(Text {
+            place: place as usize,
+            bytes: part(file, place, shown),
+        }),
         _ => other_version(),
     })
 }

@@ -24,6 +24,23 @@ pub(crate) struct Outcome {
     pub place: u64,
 }
 
+/// What is shown of a row, as the header's `crest_row`: where the nesting is absent, the last two
+/// numbers stay as they were.
+#[repr(C)]
+#[derive(Clone, Copy, Debug, Default, PartialEq, Eq)]
+pub(crate) struct RowNumbers {
+    pub place: u64,
+    pub bytes: u64,
+    pub label: u64,
+    pub nesting: u64,
+    pub depth: u64,
+    pub outermost: u64,
+}
+
+/// The header's `CREST_ABSENT` and `CREST_KNOWN`.
+pub(crate) const ABSENT: u64 = 0;
+pub(crate) const KNOWN: u64 = 1;
+
 #[rustfmt::skip] // A line for a declaration, as in the header.
 unsafe extern "C" {
     fn crest_read_label(bytes: *const u8, bytes_len: usize, version_2: bool, agency: *mut [u8; 4], version: *mut u8, class_: *mut u8, description: *mut [u8; 4], length: *mut u64, spaces: *mut u8) -> Outcome;
@@ -31,15 +48,15 @@ unsafe extern "C" {
     fn crest_check_labelled(file: *const u8, file_len: usize, version_2: bool, rows: *mut u64) -> Outcome;
     fn crest_check_waveform(file: *const u8, file_len: usize, rows: *mut u64) -> Outcome;
     fn crest_check_bursts(file: *const u8, file_len: usize, start: u64, rows: *mut u64) -> Outcome;
-    fn crest_read_row_labelled(file: *const u8, file_len: usize, version_2: bool, row: u64, first: u64, count: u64, place: *mut u64, shown: *mut u64) -> Outcome;
-    fn crest_read_row_waveform(file: *const u8, file_len: usize, row: u64, first: u64, count: u64, place: *mut u64, shown: *mut u64) -> Outcome;
-    fn crest_read_row_bursts(file: *const u8, file_len: usize, start: u64, row: u64, first: u64, count: u64, place: *mut u64, shown: *mut u64) -> Outcome;
-    fn crest_jump_labelled(file: *const u8, file_len: usize, version_2: bool, list: *const u32, list_len: usize, row: u64, first: u64, count: u64, place: *mut u64, shown: *mut u64) -> Outcome;
-    fn crest_jump_waveform(file: *const u8, file_len: usize, row: u64, first: u64, count: u64, place: *mut u64, shown: *mut u64) -> Outcome;
-    fn crest_jump_bursts(file: *const u8, file_len: usize, start: u64, row: u64, first: u64, count: u64, place: *mut u64, shown: *mut u64) -> Outcome;
-    fn crest_row_from_labelled(file: *const u8, file_len: usize, version_2: bool, from: u64, place: *mut u64, shown: *mut u64) -> Outcome;
-    fn crest_row_from_waveform(file: *const u8, file_len: usize, from: u64, place: *mut u64, shown: *mut u64) -> Outcome;
-    fn crest_row_from_bursts(file: *const u8, file_len: usize, start: u64, from: u64, place: *mut u64, shown: *mut u64) -> Outcome;
+    fn crest_read_row_labelled(file: *const u8, file_len: usize, version_2: bool, row: u64, first: u64, count: u64, shown: *mut RowNumbers) -> Outcome;
+    fn crest_read_row_waveform(file: *const u8, file_len: usize, row: u64, first: u64, count: u64, shown: *mut RowNumbers) -> Outcome;
+    fn crest_read_row_bursts(file: *const u8, file_len: usize, start: u64, row: u64, first: u64, count: u64, shown: *mut RowNumbers) -> Outcome;
+    fn crest_jump_labelled(file: *const u8, file_len: usize, version_2: bool, list: *const u32, list_len: usize, row: u64, first: u64, count: u64, shown: *mut RowNumbers) -> Outcome;
+    fn crest_jump_waveform(file: *const u8, file_len: usize, row: u64, first: u64, count: u64, shown: *mut RowNumbers) -> Outcome;
+    fn crest_jump_bursts(file: *const u8, file_len: usize, start: u64, row: u64, first: u64, count: u64, shown: *mut RowNumbers) -> Outcome;
+    fn crest_row_from_labelled(file: *const u8, file_len: usize, version_2: bool, from: u64, shown: *mut RowNumbers) -> Outcome;
+    fn crest_row_from_waveform(file: *const u8, file_len: usize, from: u64, shown: *mut RowNumbers) -> Outcome;
+    fn crest_row_from_bursts(file: *const u8, file_len: usize, start: u64, from: u64, shown: *mut RowNumbers) -> Outcome;
     fn crest_build_index(file: *const u8, file_len: usize, version_2: bool, list: *mut u32, list_len: usize, entries: *mut u64, rows: *mut u64) -> Outcome;
     fn crest_check_index(file: *const u8, file_len: usize, version_2: bool, list: *const u32, list_len: usize) -> Outcome;
     fn crest_keep_index(list: *const u32, list_len: usize, out: *mut u8, out_len: usize, written: *mut u64) -> Outcome;
@@ -130,10 +147,9 @@ pub(crate) fn read_row_labelled(
     row: u64,
     first: u64,
     count: u64,
-    place: &mut u64,
-    shown: &mut u64,
+    shown: &mut RowNumbers,
 ) -> Outcome {
-    // SAFETY: `file` is a shared slice with its length; `place` and `shown` are lent alone.
+    // SAFETY: `file` is a shared slice with its length; `shown` is lent alone.
     unsafe {
         crest_read_row_labelled(
             file.as_ptr(),
@@ -142,7 +158,6 @@ pub(crate) fn read_row_labelled(
             row,
             first,
             count,
-            place,
             shown,
         )
     }
@@ -154,11 +169,10 @@ pub(crate) fn read_row_waveform(
     row: u64,
     first: u64,
     count: u64,
-    place: &mut u64,
-    shown: &mut u64,
+    shown: &mut RowNumbers,
 ) -> Outcome {
-    // SAFETY: `file` is a shared slice with its length; `place` and `shown` are lent alone.
-    unsafe { crest_read_row_waveform(file.as_ptr(), file.len(), row, first, count, place, shown) }
+    // SAFETY: `file` is a shared slice with its length; `shown` is lent alone.
+    unsafe { crest_read_row_waveform(file.as_ptr(), file.len(), row, first, count, shown) }
 }
 
 #[inline]
@@ -168,22 +182,10 @@ pub(crate) fn read_row_bursts(
     row: u64,
     first: u64,
     count: u64,
-    place: &mut u64,
-    shown: &mut u64,
+    shown: &mut RowNumbers,
 ) -> Outcome {
-    // SAFETY: `file` is a shared slice with its length; `place` and `shown` are lent alone.
-    unsafe {
-        crest_read_row_bursts(
-            file.as_ptr(),
-            file.len(),
-            start,
-            row,
-            first,
-            count,
-            place,
-            shown,
-        )
-    }
+    // SAFETY: `file` is a shared slice with its length; `shown` is lent alone.
+    unsafe { crest_read_row_bursts(file.as_ptr(), file.len(), start, row, first, count, shown) }
 }
 
 #[inline]
@@ -195,10 +197,9 @@ pub(crate) fn jump_labelled(
     row: u64,
     first: u64,
     count: u64,
-    place: &mut u64,
-    shown: &mut u64,
+    shown: &mut RowNumbers,
 ) -> Outcome {
-    // SAFETY: `file` and `list` are shared slices with their lengths; `place` and `shown` are lent alone.
+    // SAFETY: `file` and `list` are shared slices with their lengths; `shown` is lent alone.
     unsafe {
         crest_jump_labelled(
             file.as_ptr(),
@@ -209,7 +210,6 @@ pub(crate) fn jump_labelled(
             row,
             first,
             count,
-            place,
             shown,
         )
     }
@@ -221,11 +221,10 @@ pub(crate) fn jump_waveform(
     row: u64,
     first: u64,
     count: u64,
-    place: &mut u64,
-    shown: &mut u64,
+    shown: &mut RowNumbers,
 ) -> Outcome {
-    // SAFETY: `file` is a shared slice with its length; `place` and `shown` are lent alone.
-    unsafe { crest_jump_waveform(file.as_ptr(), file.len(), row, first, count, place, shown) }
+    // SAFETY: `file` is a shared slice with its length; `shown` is lent alone.
+    unsafe { crest_jump_waveform(file.as_ptr(), file.len(), row, first, count, shown) }
 }
 
 #[inline]
@@ -235,22 +234,10 @@ pub(crate) fn jump_bursts(
     row: u64,
     first: u64,
     count: u64,
-    place: &mut u64,
-    shown: &mut u64,
+    shown: &mut RowNumbers,
 ) -> Outcome {
-    // SAFETY: `file` is a shared slice with its length; `place` and `shown` are lent alone.
-    unsafe {
-        crest_jump_bursts(
-            file.as_ptr(),
-            file.len(),
-            start,
-            row,
-            first,
-            count,
-            place,
-            shown,
-        )
-    }
+    // SAFETY: `file` is a shared slice with its length; `shown` is lent alone.
+    unsafe { crest_jump_bursts(file.as_ptr(), file.len(), start, row, first, count, shown) }
 }
 
 #[inline]
@@ -258,22 +245,16 @@ pub(crate) fn row_from_labelled(
     file: &[u8],
     version_2: bool,
     from: u64,
-    place: &mut u64,
-    shown: &mut u64,
+    shown: &mut RowNumbers,
 ) -> Outcome {
-    // SAFETY: `file` is a shared slice with its length; `place` and `shown` are lent alone.
-    unsafe { crest_row_from_labelled(file.as_ptr(), file.len(), version_2, from, place, shown) }
+    // SAFETY: `file` is a shared slice with its length; `shown` is lent alone.
+    unsafe { crest_row_from_labelled(file.as_ptr(), file.len(), version_2, from, shown) }
 }
 
 #[inline]
-pub(crate) fn row_from_waveform(
-    file: &[u8],
-    from: u64,
-    place: &mut u64,
-    shown: &mut u64,
-) -> Outcome {
-    // SAFETY: `file` is a shared slice with its length; `place` and `shown` are lent alone.
-    unsafe { crest_row_from_waveform(file.as_ptr(), file.len(), from, place, shown) }
+pub(crate) fn row_from_waveform(file: &[u8], from: u64, shown: &mut RowNumbers) -> Outcome {
+    // SAFETY: `file` is a shared slice with its length; `shown` is lent alone.
+    unsafe { crest_row_from_waveform(file.as_ptr(), file.len(), from, shown) }
 }
 
 #[inline]
@@ -281,11 +262,10 @@ pub(crate) fn row_from_bursts(
     file: &[u8],
     start: u64,
     from: u64,
-    place: &mut u64,
-    shown: &mut u64,
+    shown: &mut RowNumbers,
 ) -> Outcome {
-    // SAFETY: `file` is a shared slice with its length; `place` and `shown` are lent alone.
-    unsafe { crest_row_from_bursts(file.as_ptr(), file.len(), start, from, place, shown) }
+    // SAFETY: `file` is a shared slice with its length; `shown` is lent alone.
+    unsafe { crest_row_from_bursts(file.as_ptr(), file.len(), start, from, shown) }
 }
 
 #[inline]
@@ -451,6 +431,15 @@ mod tests {
         let (mut agency, mut version, mut class) = ([7; 4], 7, 7);
         let (mut description, mut spaces) = ([7; 4], 7);
         let (mut start, mut stop) = (7.0, 7.0);
+        let sevens = RowNumbers {
+            place: 7,
+            bytes: 7,
+            label: 7,
+            nesting: 7,
+            depth: 7,
+            outermost: 7,
+        };
+        let mut shown = sevens;
         let heads = [(1, b"NJPL1I00DEMO"), (2, b"NJPL2I00DEMO")];
         // SAFETY: each pointer with a length is null with length 0, or that of a head with its
         // length; the others point to the variables above, no two of a call to the same.
@@ -468,23 +457,12 @@ mod tests {
                     &mut spaces,
                 );
                 assert_eq!(label, refused(1));
-                let read =
-                    crest_read_row_labelled(null(), 0, version_2, 0, 0, 0, &mut one, &mut two);
+                let read = crest_read_row_labelled(null(), 0, version_2, 0, 0, 0, &mut shown);
                 assert_eq!(read, refused(6));
-                let jumped = crest_jump_labelled(
-                    null(),
-                    0,
-                    version_2,
-                    null(),
-                    0,
-                    0,
-                    0,
-                    0,
-                    &mut one,
-                    &mut two,
-                );
+                let jumped =
+                    crest_jump_labelled(null(), 0, version_2, null(), 0, 0, 0, 0, &mut shown);
                 assert_eq!(jumped, refused(6));
-                let row = crest_row_from_labelled(null(), 0, version_2, 0, &mut one, &mut two);
+                let row = crest_row_from_labelled(null(), 0, version_2, 0, &mut shown);
                 assert_eq!(row, refused(6));
             }
             for (version, head) in heads {
@@ -495,16 +473,16 @@ mod tests {
                 assert_eq!(written, refused(8));
             }
             for read in [crest_read_row_waveform, crest_jump_waveform] {
-                assert_eq!(read(null(), 0, 0, 0, 0, &mut one, &mut two), refused(6));
+                assert_eq!(read(null(), 0, 0, 0, 0, &mut shown), refused(6));
             }
-            let row = crest_row_from_waveform(null(), 0, 0, &mut one, &mut two);
+            let row = crest_row_from_waveform(null(), 0, 0, &mut shown);
             assert_eq!(row, refused(6));
             for (start, refusal) in [(0, 6), (1, 16), (u64::MAX, 16)] {
                 for read in [crest_read_row_bursts, crest_jump_bursts] {
-                    let row = read(null(), 0, start, 0, 0, 0, &mut one, &mut two);
+                    let row = read(null(), 0, start, 0, 0, 0, &mut shown);
                     assert_eq!(row, refused(refusal));
                 }
-                let row = crest_row_from_bursts(null(), 0, start, 0, &mut one, &mut two);
+                let row = crest_row_from_bursts(null(), 0, start, 0, &mut shown);
                 assert_eq!(row, refused(refusal));
                 let field = crest_burst_field(
                     null(),
@@ -530,6 +508,7 @@ mod tests {
             let loaded = crest_load_kept(null(), 0, null_mut(), 0, &mut one);
             assert_eq!(loaded, refused(13));
             assert_eq!((one, two, three, four), (7, 7, 7, 7));
+            assert_eq!(shown, sevens);
             assert_eq!((start, stop), (7.0, 7.0));
             assert_eq!((agency, description), ([7; 4], [7; 4]));
             assert_eq!((version, class, spaces), (7, 7, 7));

@@ -1,6 +1,6 @@
 //! Files of all kinds: checked, read from the first byte, jumped into, gone through row by row.
 
-use crate::ffi::{self, Outcome};
+use crate::ffi::{self, Outcome, RowNumbers};
 use crate::label::Versions;
 use crate::refusal::{other_version, Refused};
 use std::iter::FusedIterator;
@@ -59,24 +59,68 @@ impl Window {
     }
 }
 
-/// A row, or a part of it: what a window shows, or a text in a burst.
+/// A row, or the part of it that a window shows.
 #[derive(Clone, Copy, Debug, PartialEq, Eq, Hash)]
 pub struct Row<'a> {
     /// The place of its first byte in the file, for an empty one too.
     pub place: usize,
     /// Its bytes, borrowed from the file.
     pub bytes: &'a [u8],
+    /// Where the row is found again in the file, whatever part of it is shown.
+    pub address: Address,
 }
 
 impl Row<'_> {
     /// The place behind the last byte: where [`row_from`] goes on after a whole row.
     ///
     /// ```
-    /// assert_eq!(crestulbino::Row { place: 40, bytes: b"abc" }.end(), 43);
+    /// use crestulbino::{row_from, Kind, Versions};
+    ///
+    /// let row = row_from(Kind::Labelled(Versions::One), b"NJPL1I00DEMO00000003abc", 0)?;
+    /// assert_eq!((row.place, row.end()), (20, 23));
+    /// # Ok::<(), crestulbino::Refused>(())
     /// ```
     pub const fn end(&self) -> usize {
         self.place + self.bytes.len()
     }
+}
+
+/// Where a row is found again in its file. A row of a waveform or burst file has no label: it has its
+/// own first byte for both places, and depth 0.
+///
+/// ```
+/// use crestulbino::{jump_labelled, read_row, Kind, Nesting, Versions, Window};
+///
+/// let file = b"NJPL1I00DEMO00000000CCSD1Z00000100000023NJPL1I00DEMO00000003abc";
+/// let read = read_row(Kind::Labelled(Versions::One), file, 1, Window::new(1, 2))?;
+/// assert_eq!((read.place, read.address.label), (61, 40));
+/// assert_eq!(read.address.nesting, Some(Nesting { depth: 2, outermost: 20 }));
+///
+/// let jumped = jump_labelled(Versions::One, file, &[0], 1, Window::new(1, 2))?;
+/// assert_eq!((jumped.place, jumped.address.label), (61, 40));
+/// assert_eq!(jumped.address.nesting, None);
+///
+/// let row = read_row(Kind::Waveform, &[0; 2 * 2_080], 1, Window::new(4, 4))?;
+/// assert_eq!((row.place, row.address.label), (2_116, 2_112));
+/// assert_eq!(row.address.nesting, Some(Nesting { depth: 0, outermost: 2_112 }));
+/// # Ok::<(), crestulbino::Refused>(())
+/// ```
+#[derive(Clone, Copy, Debug, PartialEq, Eq, Hash)]
+pub struct Address {
+    /// The place of the row's label.
+    pub label: usize,
+    /// How the row is nested. It is absent where a labelled row was jumped or gone on to: only reading
+    /// from the first byte tells it.
+    pub nesting: Option<Nesting>,
+}
+
+/// How a row is nested.
+#[derive(Clone, Copy, Debug, PartialEq, Eq, Hash)]
+pub struct Nesting {
+    /// How deep the row's label stands: 1 at the outermost level, up to 8.
+    pub depth: usize,
+    /// The place of the outermost object that the row lies in: that of its own label at depth 1.
+    pub outermost: usize,
 }
 
 /// Checks a whole file and answers how many rows it has.
@@ -145,22 +189,20 @@ pub fn check(kind: Kind, file: &[u8]) -> Result<usize, Refused> {
 #[inline]
 pub fn read_row(kind: Kind, file: &[u8], row: usize, window: Window) -> Result<Row<'_>, Refused> {
     let (row, first, count) = (row as u64, window.first as u64, window.count as u64);
-    shown(file, |place, shown| match kind {
+    shown(file, |shown| match kind {
         Kind::Labelled(versions) => {
             let version_2 = versions.version_2();
-            ffi::read_row_labelled(file, version_2, row, first, count, place, shown)
+            ffi::read_row_labelled(file, version_2, row, first, count, shown)
         }
-        Kind::Waveform => ffi::read_row_waveform(file, row, first, count, place, shown),
-        Kind::Bursts(start) => {
-            ffi::read_row_bursts(file, start as u64, row, first, count, place, shown)
-        }
+        Kind::Waveform => ffi::read_row_waveform(file, row, first, count, shown),
+        Kind::Bursts(start) => ffi::read_row_bursts(file, start as u64, row, first, count, shown),
     })
 }
 
 /// Reads a window of a row of a labelled file by its index: `list` is what
 /// [`build_index`](crate::build_index) wrote, or what [`check_index`](crate::check_index)
-/// accepts, told the same versions. With such a list the answer is that of [`read_row`]; with any
-/// other it is of no use.
+/// accepts, told the same versions. With such a list the answer is that of [`read_row`] without how
+/// the row is nested; with any other it is of no use.
 ///
 /// Refuses: `TooBig`; `NoRow` for a missing entry; `BadIndex` for an entry beyond the file's
 /// length; what the walk from the entry meets, which is `Short`, `BadLabel`, `BadLength` or
@@ -186,9 +228,9 @@ pub fn jump_labelled<'a>(
     window: Window,
 ) -> Result<Row<'a>, Refused> {
     let (row, first, count) = (row as u64, window.first as u64, window.count as u64);
-    shown(file, |place, shown| {
+    shown(file, |shown| {
         let version_2 = versions.version_2();
-        ffi::jump_labelled(file, version_2, list, row, first, count, place, shown)
+        ffi::jump_labelled(file, version_2, list, row, first, count, shown)
     })
 }
 
@@ -208,8 +250,8 @@ pub fn jump_labelled<'a>(
 #[inline]
 pub fn jump_waveform(file: &[u8], row: usize, window: Window) -> Result<Row<'_>, Refused> {
     let (row, first, count) = (row as u64, window.first as u64, window.count as u64);
-    shown(file, |place, shown| {
-        ffi::jump_waveform(file, row, first, count, place, shown)
+    shown(file, |shown| {
+        ffi::jump_waveform(file, row, first, count, shown)
     })
 }
 
@@ -234,15 +276,15 @@ pub fn jump_bursts(
     window: Window,
 ) -> Result<Row<'_>, Refused> {
     let (row, first, count) = (row as u64, window.first as u64, window.count as u64);
-    shown(file, |place, shown| {
-        ffi::jump_bursts(file, start as u64, row, first, count, place, shown)
+    shown(file, |shown| {
+        ffi::jump_bursts(file, start as u64, row, first, count, shown)
     })
 }
 
 /// Gives a whole row from a place on: in a labelled file the first row whose label is met from
 /// there, in a waveform file the row that begins there with its prefix, in a burst file the row
 /// that begins there. Begin at [`Kind::first_place`] and go on at [`Row::end`] of each row; [`rows`]
-/// does so.
+/// does so. How a labelled row is nested is absent.
 ///
 /// Refuses, labelled: `TooBig`; `NoRow` for a place beyond the file's length; what the walk from
 /// the place meets, which is `Short`, `BadLabel`, `BadLength` or `Overrun` at a label, or `NoRow`
@@ -274,12 +316,10 @@ pub fn jump_bursts(
 #[inline]
 pub fn row_from(kind: Kind, file: &[u8], from: usize) -> Result<Row<'_>, Refused> {
     let from = from as u64;
-    shown(file, |place, shown| match kind {
-        Kind::Labelled(versions) => {
-            ffi::row_from_labelled(file, versions.version_2(), from, place, shown)
-        }
-        Kind::Waveform => ffi::row_from_waveform(file, from, place, shown),
-        Kind::Bursts(start) => ffi::row_from_bursts(file, start as u64, from, place, shown),
+    shown(file, |shown| match kind {
+        Kind::Labelled(versions) => ffi::row_from_labelled(file, versions.version_2(), from, shown),
+        Kind::Waveform => ffi::row_from_waveform(file, from, shown),
+        Kind::Bursts(start) => ffi::row_from_bursts(file, start as u64, from, shown),
     })
 }
 
@@ -342,18 +382,35 @@ impl ExactSizeIterator for Rows<'_> {}
 
 impl FusedIterator for Rows<'_> {}
 
-/// Makes a call that answers a place and a count, and borrows that part of the file.
+/// Makes a call that answers a row, and borrows the row's part of the file.
 #[inline]
-pub(crate) fn shown(
-    file: &[u8],
-    call: impl FnOnce(&mut u64, &mut u64) -> Outcome,
-) -> Result<Row<'_>, Refused> {
-    let (mut place, mut shown) = (0, 0);
-    call(&mut place, &mut shown).result()?;
-    let (place, shown) = (place as usize, shown as usize);
-    let bytes = file.get(place..).and_then(|rest| rest.get(..shown));
-    let bytes = bytes.unwrap_or_else(|| other_version());
-    Ok(Row { place, bytes })
+fn shown(file: &[u8], call: impl FnOnce(&mut RowNumbers) -> Outcome) -> Result<Row<'_>, Refused> {
+    let mut row = RowNumbers::default();
+    call(&mut row).result()?;
+    let nesting = match row.nesting {
+        ffi::ABSENT => None,
+        ffi::KNOWN => Some(Nesting {
+            depth: row.depth as usize,
+            outermost: row.outermost as usize,
+        }),
+        _ => other_version(),
+    };
+    Ok(Row {
+        place: row.place as usize,
+        bytes: part(file, row.place, row.bytes),
+        address: Address {
+            label: row.label as usize,
+            nesting,
+        },
+    })
+}
+
+/// The part of a file that a call named.
+#[inline]
+pub(crate) fn part(file: &[u8], place: u64, count: u64) -> &[u8] {
+    let bytes = file.get(place as usize..);
+    let bytes = bytes.and_then(|rest| rest.get(..count as usize));
+    bytes.unwrap_or_else(|| other_version())
 }
 
 #[cfg(test)]
@@ -394,7 +451,16 @@ mod tests {
             assert_eq!(all.clone().count(), check(kind, file).unwrap());
             for (number, row) in all.enumerate() {
                 let window = Window::new(0, row.bytes.len());
-                assert_eq!(read_row(kind, file, number, window), Ok(row));
+                let read = read_row(kind, file, number, window).unwrap();
+                assert!(read.address.nesting.is_some());
+                let is_labelled = matches!(kind, Kind::Labelled(_));
+                assert_eq!(row.address.nesting.is_none(), is_labelled);
+                let nesting = read.address.nesting.filter(|_| !is_labelled);
+                let address = Address {
+                    nesting,
+                    ..read.address
+                };
+                assert_eq!(row, Row { address, ..read });
             }
         }
     }

@@ -2,7 +2,7 @@
 //! lent with other memory on both sides. A refused call changes nothing; a call that answers
 //! changes the front of its outputs.
 
-use crate::ffi::{self, Outcome};
+use crate::ffi::{self, Outcome, RowNumbers, ABSENT, KNOWN};
 use std::fmt::Debug;
 
 const DEMO: &[u8] = b"CCSD1Z00000100000043NJPL1I00DEMO00000003abcNJPL1I00DEMO00000000";
@@ -47,6 +47,19 @@ impl Filling for u64 {
 impl Filling for f64 {
     fn of(number: u64) -> f64 {
         (number as i64) as f64
+    }
+}
+
+impl Filling for RowNumbers {
+    fn of(number: u64) -> RowNumbers {
+        RowNumbers {
+            place: number,
+            bytes: number.rotate_left(8),
+            label: number.rotate_left(16),
+            nesting: number.rotate_left(24),
+            depth: number.rotate_left(32),
+            outermost: number.rotate_left(40),
+        }
     }
 }
 
@@ -110,18 +123,30 @@ fn answers_number<T: Filling>(
     }
 }
 
-/// A call with two numbers for an answer.
-fn answers_two(
-    name: &str,
-    expected: Result<(u64, u64), Outcome>,
-    call: impl Fn(&mut u64, &mut u64) -> Outcome,
-) {
-    answers_with(
-        name,
-        0,
-        expected.map(|two| (Vec::new(), two)),
-        |_: &mut [u8], one, two| call(one, two),
-    );
+/// What is shown of a row: its place, how many bytes, its label's place, and its depth and its
+/// outermost object's place where they are known.
+type Shown = (u64, u64, u64, Option<(u64, u64)>);
+
+/// A call with a row for an answer. Where its depth is absent, the numbers for it stay as they were.
+fn shows(name: &str, expected: Result<Shown, Outcome>, call: impl Fn(&mut RowNumbers) -> Outcome) {
+    for salt in SALTS {
+        let mut shown = Lent::new(1, salt);
+        let before: RowNumbers = *shown.number();
+        let outcome = call(shown.number());
+        assert_eq!(outcome, expected.err().unwrap_or(ANSWERED), "{name}");
+        let answer = expected.ok().map(|(place, bytes, label, nesting)| {
+            let (depth, outermost) = nesting.unwrap_or((before.depth, before.outermost));
+            RowNumbers {
+                place,
+                bytes,
+                label,
+                nesting: if nesting.is_some() { KNOWN } else { ABSENT },
+                depth,
+                outermost,
+            }
+        });
+        shown.assert_front(answer.as_slice());
+    }
 }
 
 /// A call with memory lent to write to, and two numbers for an answer.
@@ -424,22 +449,22 @@ fn refused_bursts<'a>(file: &'a [u8], too_big: &'a [u8]) -> [(&'a [u8], u64, Out
 #[test]
 fn read_row_labelled() {
     for (row, first, count, expected) in [
-        (0, 1, 2, Ok((41, 2))),
-        (1, 0, 0, Ok((63, 0))),
+        (0, 1, 2, Ok((41, 2, 20, Some((2, 0))))),
+        (1, 0, 0, Ok((63, 0, 43, Some((2, 0))))),
         (2, 0, 0, Err(refused(6, 0))),
         (u64::MAX, u64::MAX, 1, Err(refused(6, 0))),
         (0, 1, 3, Err(refused(7, 0))),
         (1, u64::MAX, 1, Err(refused(7, 0))),
     ] {
         for (file, version_2) in ACCEPTED {
-            answers_two("read_row_labelled", expected, |place, shown| {
-                ffi::read_row_labelled(file, version_2, row, first, count, place, shown)
+            shows("read_row_labelled", expected, |shown| {
+                ffi::read_row_labelled(file, version_2, row, first, count, shown)
             });
         }
     }
     for (file, version_2, outcome) in refused_files() {
-        answers_two("read_row_labelled", Err(outcome), |place, shown| {
-            ffi::read_row_labelled(&file, version_2, 0, 0, 0, place, shown)
+        shows("read_row_labelled", Err(outcome), |shown| {
+            ffi::read_row_labelled(&file, version_2, 0, 0, 0, shown)
         });
     }
 }
@@ -449,30 +474,30 @@ fn waveform_rows() {
     let file = vec![0; 2 * 2_080];
     let (ragged, too_big) = (vec![0; 2_081], too_big());
     for (file, row, first, count, expected) in [
-        (&file, 1, 2_040, 8, Ok((4_152, 8))),
-        (&file, 1, 2_048, 0, Ok((4_160, 0))),
+        (&file, 1, 2_040, 8, Ok((4_152, 8, 2_112, Some((0, 2_112))))),
+        (&file, 1, 2_048, 0, Ok((4_160, 0, 2_112, Some((0, 2_112))))),
         (&file, 2, 0, 0, Err(refused(6, 0))),
         (&file, 1 << 59, 0, 0, Err(refused(6, 0))),
         (&file, 1, 2_041, 8, Err(refused(7, 0))),
         (&ragged, 0, 0, 0, Err(refused(12, 0))),
         (&too_big, 0, 0, 0, Err(refused(14, 0))),
     ] {
-        answers_two("read_row_waveform", expected, |place, shown| {
-            ffi::read_row_waveform(file, row, first, count, place, shown)
+        shows("read_row_waveform", expected, |shown| {
+            ffi::read_row_waveform(file, row, first, count, shown)
         });
-        answers_two("jump_waveform", expected, |place, shown| {
-            ffi::jump_waveform(file, row, first, count, place, shown)
+        shows("jump_waveform", expected, |shown| {
+            ffi::jump_waveform(file, row, first, count, shown)
         });
     }
     for (file, from, expected) in [
-        (&file, 2_080, Ok((2_112, 2_048))),
+        (&file, 2_080, Ok((2_112, 2_048, 2_112, Some((0, 2_112))))),
         (&file, 2_081, Err(refused(6, 0))),
         (&file, 4_160, Err(refused(6, 0))),
         (&ragged, 0, Err(refused(12, 0))),
         (&too_big, 0, Err(refused(14, 0))),
     ] {
-        answers_two("row_from_waveform", expected, |place, shown| {
-            ffi::row_from_waveform(file, from, place, shown)
+        shows("row_from_waveform", expected, |shown| {
+            ffi::row_from_waveform(file, from, shown)
         });
     }
 }
@@ -481,25 +506,25 @@ fn waveform_rows() {
 fn burst_rows() {
     let (two, too_big) = (bursts(2), too_big());
     for (row, first, count, expected) in [
-        (0, 0, 1_272, Ok((100, 1_272))),
-        (1, 1_264, 8, Ok((2_636, 8))),
-        (1, 1_272, 0, Ok((2_644, 0))),
+        (0, 0, 1_272, Ok((100, 1_272, 100, Some((0, 100))))),
+        (1, 1_264, 8, Ok((2_636, 8, 1_372, Some((0, 1_372))))),
+        (1, 1_272, 0, Ok((2_644, 0, 1_372, Some((0, 1_372))))),
         (2, 0, 0, Err(refused(6, 0))),
         (1 << 61, 0, 0, Err(refused(6, 0))),
         (u64::MAX, u64::MAX, 1, Err(refused(6, 0))),
         (1, 1_265, 8, Err(refused(7, 0))),
         (1, u64::MAX, 1, Err(refused(7, 0))),
     ] {
-        answers_two("read_row_bursts", expected, |place, shown| {
-            ffi::read_row_bursts(&two, FRONT, row, first, count, place, shown)
+        shows("read_row_bursts", expected, |shown| {
+            ffi::read_row_bursts(&two, FRONT, row, first, count, shown)
         });
-        answers_two("jump_bursts", expected, |place, shown| {
-            ffi::jump_bursts(&two, FRONT, row, first, count, place, shown)
+        shows("jump_bursts", expected, |shown| {
+            ffi::jump_bursts(&two, FRONT, row, first, count, shown)
         });
     }
     for (from, expected) in [
-        (100, Ok((100, 1_272))),
-        (1_372, Ok((1_372, 1_272))),
+        (100, Ok((100, 1_272, 100, Some((0, 100))))),
+        (1_372, Ok((1_372, 1_272, 1_372, Some((0, 1_372))))),
         (0, Err(refused(6, 0))),
         (99, Err(refused(6, 0))),
         (101, Err(refused(6, 0))),
@@ -507,21 +532,21 @@ fn burst_rows() {
         (2_644, Err(refused(6, 0))),
         (u64::MAX, Err(refused(6, 0))),
     ] {
-        answers_two("row_from_bursts", expected, |place, shown| {
-            ffi::row_from_bursts(&two, FRONT, from, place, shown)
+        shows("row_from_bursts", expected, |shown| {
+            ffi::row_from_bursts(&two, FRONT, from, shown)
         });
     }
     for (file, start, outcome) in refused_bursts(&two, &too_big) {
         for (row, first) in [(0, 0), (u64::MAX, u64::MAX)] {
-            answers_two("read_row_bursts", Err(outcome), |place, shown| {
-                ffi::read_row_bursts(file, start, row, first, 0, place, shown)
+            shows("read_row_bursts", Err(outcome), |shown| {
+                ffi::read_row_bursts(file, start, row, first, 0, shown)
             });
-            answers_two("jump_bursts", Err(outcome), |place, shown| {
-                ffi::jump_bursts(file, start, row, first, 0, place, shown)
+            shows("jump_bursts", Err(outcome), |shown| {
+                ffi::jump_bursts(file, start, row, first, 0, shown)
             });
         }
-        answers_two("row_from_bursts", Err(outcome), |place, shown| {
-            ffi::row_from_bursts(file, start, start, place, shown)
+        shows("row_from_bursts", Err(outcome), |shown| {
+            ffi::row_from_bursts(file, start, start, shown)
         });
     }
 }
@@ -529,8 +554,8 @@ fn burst_rows() {
 #[test]
 fn jump_labelled() {
     for (list, row, first, count, expected) in [
-        (&[20][..], 0, 1, 2, Ok((41, 2))),
-        (&[20], 1, 0, 0, Ok((63, 0))),
+        (&[20][..], 0, 1, 2, Ok((41, 2, 20, None))),
+        (&[20], 1, 0, 0, Ok((63, 0, 43, None))),
         (&[], 0, 0, 0, Err(refused(6, 0))),
         (&[20], 16, 0, 0, Err(refused(6, 0))),
         (&[20], 2, 0, 0, Err(refused(6, 0))),
@@ -538,20 +563,20 @@ fn jump_labelled() {
         (&[20], 0, 1, 3, Err(refused(7, 0))),
     ] {
         for (file, version_2) in ACCEPTED {
-            answers_two("jump_labelled", expected, |place, shown| {
-                ffi::jump_labelled(file, version_2, list, row, first, count, place, shown)
+            shows("jump_labelled", expected, |shown| {
+                ffi::jump_labelled(file, version_2, list, row, first, count, shown)
             });
         }
     }
     for (file, version_2, outcome) in walk_faults().into_iter().chain(too_big_files()) {
-        answers_two("jump_labelled", Err(outcome), |place, shown| {
-            ffi::jump_labelled(&file, version_2, &[0], 0, 0, 0, place, shown)
+        shows("jump_labelled", Err(outcome), |shown| {
+            ffi::jump_labelled(&file, version_2, &[0], 0, 0, 0, shown)
         });
     }
     // Version 1 only, the walk does not meet the last label.
-    for (row, expected) in [(0, Ok((40, 0))), (1, Err(refused(2, 43)))] {
-        answers_two("jump_labelled", expected, |place, shown| {
-            ffi::jump_labelled(MIXED, false, &[20], row, 0, 0, place, shown)
+    for (row, expected) in [(0, Ok((40, 0, 20, None))), (1, Err(refused(2, 43)))] {
+        shows("jump_labelled", expected, |shown| {
+            ffi::jump_labelled(MIXED, false, &[20], row, 0, 0, shown)
         });
     }
 }
@@ -559,26 +584,26 @@ fn jump_labelled() {
 #[test]
 fn row_from_labelled() {
     for (from, expected) in [
-        (0, Ok((40, 3))),
-        (43, Ok((63, 0))),
+        (0, Ok((40, 3, 20, None))),
+        (43, Ok((63, 0, 43, None))),
         (63, Err(refused(6, 0))),
         (64, Err(refused(6, 0))),
         (u64::MAX, Err(refused(6, 0))),
     ] {
         for (file, version_2) in ACCEPTED {
-            answers_two("row_from_labelled", expected, |place, shown| {
-                ffi::row_from_labelled(file, version_2, from, place, shown)
+            shows("row_from_labelled", expected, |shown| {
+                ffi::row_from_labelled(file, version_2, from, shown)
             });
         }
     }
     for (file, version_2, outcome) in walk_faults().into_iter().chain(too_big_files()) {
-        answers_two("row_from_labelled", Err(outcome), |place, shown| {
-            ffi::row_from_labelled(&file, version_2, 0, place, shown)
+        shows("row_from_labelled", Err(outcome), |shown| {
+            ffi::row_from_labelled(&file, version_2, 0, shown)
         });
     }
-    for (from, expected) in [(0, Ok((40, 3))), (43, Err(refused(2, 43)))] {
-        answers_two("row_from_labelled", expected, |place, shown| {
-            ffi::row_from_labelled(MIXED, false, from, place, shown)
+    for (from, expected) in [(0, Ok((40, 3, 20, None))), (43, Err(refused(2, 43)))] {
+        shows("row_from_labelled", expected, |shown| {
+            ffi::row_from_labelled(MIXED, false, from, shown)
         });
     }
 }

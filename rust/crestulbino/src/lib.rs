@@ -23,6 +23,9 @@
 //! # Ok::<(), crestulbino::Refused>(())
 //! ```
 //!
+//! A row carries its [`Address`], to be looked up in a hex viewer: where its label stands, and, where it
+//! was read from the first byte, how it is nested.
+//!
 //! A label is of one of two [`Version`]s, and a file may mix them. Every call that reads labels is
 //! told which [`Versions`] are allowed; all that is asked of one file is to be told the same.
 //!
@@ -71,11 +74,11 @@ mod numbers;
 mod refusal;
 
 pub use bursts::{
-    beams, burst_field, burst_verdict, mode, Beams, Field, Mode, BURST_BYTES, BURST_FIELDS,
+    beams, burst_field, burst_verdict, mode, Beams, Field, Mode, Text, BURST_BYTES, BURST_FIELDS,
 };
 pub use file::{
-    check, jump_bursts, jump_labelled, jump_waveform, read_row, row_from, rows, Kind, Row, Rows,
-    Window,
+    check, jump_bursts, jump_labelled, jump_waveform, read_row, row_from, rows, Address, Kind,
+    Nesting, Row, Rows, Window,
 };
 pub use index::{
     build_index, check_index, keep_index, load_kept, Built, KEPT_FRONT_BYTES, ROWS_PER_ENTRY,

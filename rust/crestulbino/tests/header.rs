@@ -74,6 +74,7 @@ fn rust_type(c: &str) -> String {
         "bool" => "bool",
         "double" => "f64",
         "crest_result" => "Outcome",
+        "crest_row" => "RowNumbers",
         other => panic!("no type for {other}"),
     };
     rust.to_string()
@@ -106,6 +107,45 @@ fn declarations_are_those_of_the_header_in_its_order() {
     let header = header_functions();
     assert_eq!(header.len(), 27);
     assert_eq!(declared_functions(), header);
+}
+
+/// The fields of a struct of the header, with their types in Rust's words.
+fn header_fields(name: &str) -> Vec<(String, String)> {
+    let code = header_code();
+    let (_, rest) = code.split_once(&format!("struct {name} {{")).expect(name);
+    let (fields, _) = rest.split_once('}').expect("the end of a struct");
+    let fields = fields.split(';').map(str::trim);
+    fields
+        .filter(|field| !field.is_empty())
+        .map(c_parameter)
+        .collect()
+}
+
+/// The fields of a struct of the declarations.
+fn declared_fields(name: &str) -> Vec<(String, String)> {
+    let start = format!("pub(crate) struct {name} {{");
+    let (_, rest) = DECLARATIONS.split_once(&start).expect(name);
+    let (fields, _) = rest.split_once('}').expect("the end of a struct");
+    let fields = fields.lines().filter_map(|line| {
+        let (name, of) = line.trim().strip_prefix("pub ")?.split_once(": ")?;
+        Some((name.to_string(), of.trim_end_matches(',').to_string()))
+    });
+    fields.collect()
+}
+
+#[test]
+fn structs_are_those_of_the_header() {
+    for (header, declared, fields) in [
+        ("crest_result", "Outcome", 2),
+        ("crest_row", "RowNumbers", 6),
+    ] {
+        assert_eq!(header_fields(header).len(), fields);
+        assert_eq!(declared_fields(declared), header_fields(header));
+    }
+    for (number, name) in [(0, "ABSENT"), (1, "KNOWN")] {
+        assert!(HEADER.contains(&format!("    CREST_{name} = {number}")));
+        assert!(DECLARATIONS.contains(&format!("const {name}: u64 = {number};")));
+    }
 }
 
 #[test]

@@ -3,7 +3,7 @@
 
 use crate::altimeter::Verdict;
 use crate::refusal::{Reason, Refusal};
-use crate::window::{Part, Row, Window};
+use crate::window::{self, Part, Row, Window};
 use crate::{check_size, pass_rows};
 use Storage::{Float32, Float64, Int32, Text, Uint32};
 
@@ -335,7 +335,7 @@ pub enum Value<'a> {
     Signed(i32),
     Float4(u32),
     Float8(u64),
-    Text(Part<'a>),
+    Text(window::Text<'a>),
 }
 
 /// How echoes were compressed, in the order of section 8.2.n.34.
@@ -427,13 +427,13 @@ pub fn value(
     let record = row(file, first_place, number)?;
     let field = field_at(position)?;
     let window = Window::new(field.start_byte - 1, field.length);
-    let part = window.show(file, record)?;
+    let Part { place, bytes, .. } = window.show(file, record)?;
     Ok(match field.storage {
-        Uint32 => Value::Unsigned(four(part.bytes)),
-        Int32 => Value::Signed(four(part.bytes) as i32),
-        Float32 => Value::Float4(four(part.bytes)),
-        Float64 => Value::Float8(least_first(part.bytes)),
-        Text => Value::Text(part),
+        Uint32 => Value::Unsigned(four(bytes)),
+        Int32 => Value::Signed(four(bytes) as i32),
+        Float32 => Value::Float4(four(bytes)),
+        Float64 => Value::Float8(least_first(bytes)),
+        Text => Value::Text(window::Text { place, bytes }),
     })
 }
 
@@ -485,10 +485,7 @@ fn row(file: &[u8], first_place: u64, number: u64) -> Result<Row, Refusal> {
 }
 
 fn record_at(start: u64) -> Row {
-    Row {
-        start,
-        length: RECORD_BYTES,
-    }
+    Row::unlabelled(start, RECORD_BYTES)
 }
 
 fn field_at(position: u64) -> Result<Field, Refusal> {
@@ -516,6 +513,7 @@ fn least_first(bytes: &[u8]) -> u64 {
 #[cfg(test)]
 mod tests {
     use super::*;
+    use crate::window::{Address, Nesting};
 
     const RECORD: usize = RECORD_BYTES as usize;
 
@@ -715,11 +713,11 @@ mod tests {
     fn texts_are_their_bytes() {
         let mut file = vec![0xff; 9];
         file.extend(record_with(154, b"TITAN           "));
-        let part = Part {
+        let text = window::Text {
             place: 9 + 672,
             bytes: b"TITAN           ",
         };
-        assert_eq!(value(&file, 9, 0, 154), Ok(Value::Text(part)));
+        assert_eq!(value(&file, 9, 0, 154), Ok(Value::Text(text)));
     }
 
     #[test]
@@ -764,6 +762,37 @@ mod tests {
         }
         for number in [8, 9, 1 << 32, 1 << 63, u64::MAX] {
             assert_eq!(mode(number), None);
+        }
+    }
+
+    #[test]
+    fn addresses_are_those_of_the_first_byte() {
+        for (front, places) in [
+            (0, [0, 1_272, 2_544]),
+            (5, [5, 1_277, 2_549]),
+            (1_300, [1_300, 2_572, 3_844]),
+        ] {
+            let file = file(front, 3);
+            let front = front as u64;
+            for (number, place) in (0..).zip(places) {
+                let nesting = Some(Nesting {
+                    depth: 0,
+                    outermost: place,
+                });
+                let address = Address {
+                    label: place,
+                    nesting,
+                };
+                for (first, count) in [(0, 1_272), (600, 7), (1_271, 1), (1_272, 0)] {
+                    let window = Window::new(first, count);
+                    let read = read_row(&file, front, number, window).unwrap();
+                    assert_eq!((read.place, read.address), (place + first, address));
+                    let jumped = jump(&file, front, number, window).unwrap();
+                    assert_eq!((jumped.place, jumped.address), (place + first, address));
+                }
+                let whole = row_from(&file, front, place).unwrap();
+                assert_eq!((whole.place, whole.address), (place, address));
+            }
         }
     }
 }

@@ -4,7 +4,7 @@
 use crate::check_size;
 use crate::label::{Label, Versions, LABEL_BYTES};
 use crate::refusal::{Reason, Refusal};
-use crate::window::{Part, Row, Window};
+use crate::window::{Address, Nesting, Part, Row, Window};
 
 /// Labels may stand this deep; the outermost ones are at depth 1.
 pub const DEEPEST: usize = 8;
@@ -12,34 +12,45 @@ pub const DEEPEST: usize = 8;
 /// A leaf as the pass meets it.
 #[derive(Clone, Copy, Debug, PartialEq, Eq)]
 pub struct Leaf {
-    /// Where its label begins.
-    pub place: u64,
     pub label: Label,
-    /// Where its value stands.
+    /// Where its value stands, and its address with nothing absent.
     pub row: Row,
+}
+
+/// A group that is open during the pass, or the file.
+struct Open {
+    /// Where it ends.
+    end: u64,
+    /// Where the outermost object begins that the group is or lies in; nothing
+    /// for the file, as each label right inside it is an outermost one.
+    outermost: Option<u64>,
 }
 
 /// Passes through a file in order and gives its leaves, up to the first fault.
 ///
-/// Open groups are kept as a pile of places at which they end. The file itself
-/// lies at the bottom of the pile, so the size of the pile is the depth at
-/// which the next label would stand.
+/// Open groups are kept as a pile. The file itself lies at the bottom of the
+/// pile, so the size of the pile is the depth at which the next label would
+/// stand.
 pub struct Leaves<'a> {
     versions: Versions,
     file: &'a [u8],
     place: u64,
-    ends: Vec<u64>,
+    pile: Vec<Open>,
 }
 
 /// Begins a pass at the first byte of a file.
 pub fn leaves(versions: Versions, file: &[u8]) -> Result<Leaves<'_>, Refusal> {
     let length = file.len() as u64;
     check_size(length)?;
+    let whole = Open {
+        end: length,
+        outermost: None,
+    };
     Ok(Leaves {
         versions,
         file,
         place: 0,
-        ends: vec![length],
+        pile: vec![whole],
     })
 }
 
@@ -47,14 +58,14 @@ impl Leaves<'_> {
     /// Goes on to the next leaf; gives nothing once the whole file is passed.
     fn advance(&mut self) -> Result<Option<Leaf>, Refusal> {
         loop {
-            while self.ends.last() == Some(&self.place) {
-                self.ends.pop();
+            let place = self.place;
+            while self.pile.last().is_some_and(|open| open.end == place) {
+                self.pile.pop();
             }
-            let Some(&end) = self.ends.last() else {
+            let Some(&Open { end, outermost }) = self.pile.last() else {
                 return Ok(None);
             };
-            let place = self.place;
-            if self.ends.len() > DEEPEST {
+            if self.pile.len() > DEEPEST {
                 return Err(Reason::Deep.at(place));
             }
             let label = Label::read_at(self.versions, self.file, place, end)?;
@@ -63,17 +74,29 @@ impl Leaves<'_> {
                 return Err(Reason::Overrun.at(place));
             }
             let value_end = start + label.length;
+            let outermost = outermost.unwrap_or(place);
             if label.is_group() {
-                self.ends.push(value_end);
+                self.pile.push(Open {
+                    end: value_end,
+                    outermost: Some(outermost),
+                });
                 self.place = start;
                 continue;
             }
             self.place = value_end;
+            let nesting = Nesting {
+                depth: self.pile.len() as u64,
+                outermost,
+            };
             let row = Row {
                 start,
                 length: label.length,
+                address: Address {
+                    label: place,
+                    nesting: Some(nesting),
+                },
             };
-            return Ok(Some(Leaf { place, label, row }));
+            return Ok(Some(Leaf { label, row }));
         }
     }
 }
@@ -85,7 +108,7 @@ impl Iterator for Leaves<'_> {
         let step = self.advance();
         if step.is_err() {
             // Nothing follows a fault.
-            self.ends.clear();
+            self.pile.clear();
         }
         step.transpose()
     }
@@ -116,7 +139,8 @@ pub fn read_row(
 }
 
 /// Gives the first row from a place on, whole. A place beyond the file has no
-/// row; what else stands in the way is what the walk meets.
+/// row; what else stands in the way is what the walk meets. Of the address it
+/// fills what the walk fills.
 pub fn row_from(versions: Versions, file: &[u8], from: u64) -> Result<Part<'_>, Refusal> {
     let end = file.len() as u64;
     check_size(end)?;
@@ -132,6 +156,7 @@ pub fn row_from(versions: Versions, file: &[u8], from: u64) -> Result<Part<'_>, 
 ///
 /// The walk knows nothing of depth: it enters each group it meets, ignores how
 /// long the group says it is, and measures leaves against the end of the file.
+/// So the address that it gives has the label's place only.
 pub(crate) fn walk(
     versions: Versions,
     file: &[u8],
@@ -155,6 +180,10 @@ pub(crate) fn walk(
             return Ok(Row {
                 start,
                 length: label.length,
+                address: Address {
+                    label: place,
+                    nesting: None,
+                },
             });
         }
         leaves_before -= 1;
@@ -439,5 +468,157 @@ mod tests {
         }
         assert_eq!(check(BOTH, &file), Ok(0));
         assert_eq!(check(BOTH, &group_2(&file)), Err(Reason::Deep.at(160)));
+    }
+
+    /// A group of version 1.
+    fn group_1(class: char, inside: &[u8]) -> Vec<u8> {
+        let label = format!("CCSD1{class}000001{:08}", inside.len());
+        [label.as_bytes(), inside].concat()
+    }
+
+    /// Label's place, depth and outermost place of each row, as read.
+    fn addresses(versions: Versions, file: &[u8]) -> Vec<(u64, u64, u64)> {
+        let rows = check(versions, file).unwrap();
+        let address = |row| {
+            let part = read_row(versions, file, row, Window::new(0, 0)).unwrap();
+            let nesting = part.address.nesting.unwrap();
+            (part.address.label, nesting.depth, nesting.outermost)
+        };
+        (0..rows).map(address).collect()
+    }
+
+    const ROW: &[u8] = b"NJPL1I00DEMO00000001x";
+
+    #[test]
+    fn addresses_at_all_depths() {
+        // At each depth a row, the next group and a row behind it.
+        let mut file = [ROW, ROW].concat();
+        for _ in 1..8 {
+            file = [ROW, &group_1('Z', &file), ROW].concat();
+        }
+        let expected = [
+            (0, 1, 0),
+            (41, 2, 21),
+            (82, 3, 21),
+            (123, 4, 21),
+            (164, 5, 21),
+            (205, 6, 21),
+            (246, 7, 21),
+            (287, 8, 21),
+            (308, 8, 21),
+            (329, 7, 21),
+            (350, 6, 21),
+            (371, 5, 21),
+            (392, 4, 21),
+            (413, 3, 21),
+            (434, 2, 21),
+            (455, 1, 455),
+        ];
+        assert_eq!(addresses(FIRST, &file), expected);
+        assert_eq!(addresses(BOTH, &file), expected);
+        // The same again behind it: all places grow, the depths stay.
+        let length = file.len() as u64;
+        let again =
+            expected.map(|(label, depth, outermost)| (label + length, depth, outermost + length));
+        let twice = file.repeat(2);
+        assert_eq!(addresses(FIRST, &twice), [expected, again].concat());
+    }
+
+    #[test]
+    fn each_outermost_object_has_its_own_place() {
+        for (one, other) in [('Z', 'Z'), ('U', 'F'), ('F', 'U')] {
+            let file = [
+                group_1(one, &[ROW, ROW].concat()),
+                group_1(other, &group_1(one, ROW)),
+                ROW.to_vec(),
+                group_1(other, ROW),
+            ]
+            .concat();
+            let expected = [
+                (20, 2, 0),
+                (41, 2, 0),
+                (102, 3, 62),
+                (123, 1, 123),
+                (164, 2, 144),
+            ];
+            assert_eq!(addresses(FIRST, &file), expected);
+        }
+    }
+
+    #[test]
+    fn empty_groups_leave_no_trace_in_an_address() {
+        let empty = group_1('Z', b"");
+        let nested = group_1('Z', &group_1('U', &empty));
+        // In front of rows and behind them, also in a group.
+        let inside = [&empty[..], ROW, &nested, ROW].concat();
+        let group = group_1('F', &inside);
+        let file = [&empty[..], ROW, &nested, ROW, &group, ROW, &empty].concat();
+        let expected = [
+            (20, 1, 20),
+            (101, 1, 101),
+            (162, 2, 122),
+            (243, 2, 122),
+            (264, 1, 264),
+        ];
+        assert_eq!(addresses(FIRST, &file), expected);
+    }
+
+    #[test]
+    fn empty_rows_have_their_own_labels() {
+        let empty = b"NJPL1I00DEMO00000000";
+        let file = [group_1('Z', &empty.repeat(2)), empty.repeat(2)].concat();
+        let expected = [(20, 2, 0), (40, 2, 0), (60, 1, 60), (80, 1, 80)];
+        assert_eq!(addresses(FIRST, &file), expected);
+    }
+
+    #[test]
+    fn addresses_do_not_depend_on_the_version() {
+        let inside = [&leaf_2(b"xy")[..], ROW, &group_2(ROW)].concat();
+        let expected = [
+            (0, 1, 0),
+            (62, 3, 22),
+            (84, 3, 22),
+            (125, 4, 22),
+            (146, 1, 146),
+        ];
+        for group in [
+            group_1('Z', &group_2(&inside)),
+            group_2(&group_1('Z', &inside)),
+            group_2(&group_2(&inside)),
+        ] {
+            let file = [&leaf_2(b"xy")[..], &group, ROW].concat();
+            assert_eq!(addresses(BOTH, &file), expected);
+        }
+    }
+
+    #[test]
+    fn a_window_does_not_move_an_address() {
+        let file = [ROW, &group_1('Z', b"NJPL1I00DEMO00000003abc")].concat();
+        let nesting = Some(Nesting {
+            depth: 2,
+            outermost: 21,
+        });
+        let address = Address { label: 41, nesting };
+        for (first, count) in [(0, 3), (0, 0), (1, 1), (2, 1), (3, 0)] {
+            let part = read_row(FIRST, &file, 1, Window::new(first, count)).unwrap();
+            assert_eq!((part.place, part.address), (61 + first, address));
+        }
+    }
+
+    #[test]
+    fn going_on_fills_the_place_of_the_label_only() {
+        let file = [
+            group_1('Z', &[ROW, &group_2(&leaf_2(b""))].concat()),
+            ROW.to_vec(),
+        ]
+        .concat();
+        let read = [(20, 2, 0), (61, 3, 0), (81, 1, 81)];
+        assert_eq!(addresses(BOTH, &file), read);
+        // From the label itself, and from each group in front of it.
+        for (from, label) in [(0, 20), (20, 20), (41, 61), (61, 61), (81, 81)] {
+            let part = row_from(BOTH, &file, from).unwrap();
+            let nesting = None;
+            assert_eq!(part.address, Address { label, nesting });
+        }
     }
 }

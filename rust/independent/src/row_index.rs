@@ -39,7 +39,8 @@ pub fn check(versions: Versions, file: &[u8], list: &[u32]) -> Result<(), Refusa
     }
 }
 
-/// Reads a window of row `number` by walking on from the entry of its group.
+/// Reads a window of row `number` by walking on from the entry of its group. Of
+/// the address it fills what the walk fills.
 pub fn jump<'a>(
     versions: Versions,
     file: &'a [u8],
@@ -69,12 +70,13 @@ fn entries_of(
 ) -> Result<impl Iterator<Item = Result<u32, Refusal>> + '_, Refusal> {
     Ok(leaves(versions, file)?
         .step_by(GROUP_ROWS as usize)
-        .map(|leaf| leaf.map(|leaf| leaf.place as u32)))
+        .map(|leaf| leaf.map(|leaf| leaf.row.address.label as u32)))
 }
 
 #[cfg(test)]
 mod tests {
     use super::*;
+    use crate::window::Address;
 
     const FIRST: Versions = Versions::First;
     const BOTH: Versions = Versions::Both;
@@ -218,6 +220,7 @@ mod tests {
         let file = b"NJPL1I00DEMO00000023NJPL1I00DEMO00000003abc";
         let part = jump(FIRST, file, &[20], 0, Window::new(0, 3)).unwrap();
         assert_eq!((part.place, part.bytes), (40, &b"abc"[..]));
+        assert_eq!(part.address.label, 20);
         assert_eq!(jump(FIRST, file, &[1], 0, ALL), Err(Reason::BadLabel.at(1)));
     }
 
@@ -281,6 +284,34 @@ mod tests {
                 jump(BOTH, &file, &[0], 3, ALL),
                 Err(Reason::NoRow.at_start())
             );
+        }
+    }
+
+    #[test]
+    fn the_jump_fills_the_place_of_the_label_only() {
+        let file = [flat(1), mixed(18)].concat();
+        let mut list = [0; 2];
+        assert_eq!(build(BOTH, &file, &mut list).unwrap().rows, 19);
+        assert_eq!(list, [0, 341]);
+        for row in 0..19 {
+            let part = jump(BOTH, &file, &list, row, ALL).unwrap();
+            let label = if row == 0 { 0 } else { 21 + 20 * row };
+            let nesting = None;
+            assert_eq!(part.address, Address { label, nesting });
+            let read = labelled::read_row(BOTH, &file, row, ALL).unwrap();
+            assert_eq!((part.place, label), (read.place, read.address.label));
+            assert!(read.address.nesting.is_some());
+        }
+    }
+
+    #[test]
+    fn a_window_does_not_move_the_address_of_a_jump() {
+        let file = b"CCSD1Z00000100000023NJPL1I00DEMO00000003abc";
+        for (first, count) in [(0, 3), (0, 0), (1, 1), (2, 1), (3, 0)] {
+            let part = jump(FIRST, file, &[20], 0, Window::new(first, count)).unwrap();
+            let (label, nesting) = (20, None);
+            assert_eq!(part.place, 40 + first);
+            assert_eq!(part.address, Address { label, nesting });
         }
     }
 }

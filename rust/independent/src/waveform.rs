@@ -55,15 +55,13 @@ pub fn sample(byte: u8) -> i16 {
 }
 
 fn samples_at(record: u64) -> Row {
-    Row {
-        start: record + PREFIX_BYTES,
-        length: SAMPLE_BYTES,
-    }
+    Row::unlabelled(record + PREFIX_BYTES, SAMPLE_BYTES)
 }
 
 #[cfg(test)]
 mod tests {
     use super::*;
+    use crate::window::{Address, Nesting};
 
     /// A file in which each byte tells its row and whether it is a sample.
     fn rows(count: u8) -> Vec<u8> {
@@ -143,6 +141,30 @@ mod tests {
     fn samples_are_doubled_amplitudes() {
         for byte in 0..=255u8 {
             assert_eq!(f64::from(sample(byte)), 2.0 * (f64::from(byte) - 127.5));
+        }
+    }
+
+    #[test]
+    fn addresses_are_those_of_the_first_sample() {
+        let file = rows(32);
+        for (number, place) in [(0, 32), (1, 2_112), (31, 64_512)] {
+            let nesting = Some(Nesting {
+                depth: 0,
+                outermost: place,
+            });
+            let address = Address {
+                label: place,
+                nesting,
+            };
+            for (first, count) in [(0, 2_048), (1_024, 7), (2_047, 1), (2_048, 0)] {
+                let window = Window::new(first, count);
+                let read = read_row(&file, number, window).unwrap();
+                assert_eq!((read.place, read.address), (place + first, address));
+                let jumped = jump(&file, number, window).unwrap();
+                assert_eq!((jumped.place, jumped.address), (place + first, address));
+            }
+            let whole = row_from(&file, number * 2_080).unwrap();
+            assert_eq!((whole.place, whole.address), (place, address));
         }
     }
 }

@@ -3,6 +3,7 @@
 use Prim.Native.Nat.{ℕ, _+_, _-_, _<_}
 use native.Mathlib.Omega.{arith}
 use mathlib.Core.Path.{refl, ap, subst}
+use mathlib.Core.Logic.{inl, inr}
 use mathlib.Core.Bool.{true, false}
 use lib.ListN.{length}
 use borrow.Author.Needs.{needs}
@@ -10,13 +11,12 @@ use borrow.Fn.Kinds.{In}
 use borrow.Fn.PlainCycle.{Measures, is, falls, and}
 use denote.Ref.{now}
 use Rattle.sfdu.specs.Private.{ObjectAt, Stands, outermostBy, searched, Searched}
-use Rattle.sfdu.proofs.Nested.{Sofar, starts, no-bytes, deepest, ends, faulty, leaf-passed, group-passed, group-faulty}
+use Rattle.sfdu.proofs.Nested.{Sofar, starts, no-bytes, deepest, ends, faulty, leaf-found, leaf-passed, group-passed, group-faulty}
 use Rattle.sfdu.proofs.search_part.Reads as reads
 use Rattle.sfdu.proofs.search_part.Kinds as kinds
 use Rattle.sfdu.proofs.+search_part.Lts-search_part as lts
 use Rattle.sfdu.proofs.object_at.Reads as object-at-reads
 use Rattle.sfdu.proofs.outermost.Reads as outermost-reads
-use Rattle.sfdu.proofs.see_leaf.Reads as see-leaf-reads
 use Rattle.sfdu.proofs.+search_part.{statement}
 use Rattle.sfdu.proofs.+search_part.Tie.{close}
 
@@ -24,10 +24,11 @@ abbrev μ-call : Measures 1 kinds.ps ℕ
 μ-call κs a = a .1 .1 .1 .0
 
 abbrev Inv : lts.InvT-loop
-Inv versions part base left outer k depth at₀ seen₀ at seen = Sofar versions part base left (outermostBy outer) k seen₀ at seen
+Inv versions part base left outer k at₀ rows₀ mark₀ at rows mark =
+    Sofar versions part base left (outermostBy outer) k (record { rows = rows₀; mark = mark₀ }) at (record { rows = rows; mark = mark })
 
 abbrev μ : lts.MeasureT-loop
-μ versions part base left outer k depth at₀ seen₀ at seen = length part - at
+μ versions part base left outer k at₀ rows₀ mark₀ at rows mark = length part - at
 
 module _ (t : ℕ) where
   -- what a call supposes at measure t, and what a call inside it may suppose
@@ -38,25 +39,19 @@ module _ (t : ℕ) where
   Below = and 1 kinds.ps (falls 1 kinds.ps _<_ μ-call t) reads.Pre
 
   abbrev claims : lts.Claims
-  claims = (object-at-reads.Asked, object-at-reads.Learnt, outermost-reads.Asked, outermost-reads.Learnt, see-leaf-reads.Asked, see-leaf-reads.Learnt, Below, reads.Post)
+  claims = (object-at-reads.Asked, object-at-reads.Learnt, outermost-reads.Asked, outermost-reads.Learnt, Below, reads.Post)
 
   returns : lts.Need-returns claims Pre reads.Post Inv μ
-  returns c = no-bytes (c .before .before .args .versions) (now (c .before .before .args .part)) _ _ _ _ _ (c .if1 .taken) (c .before .before .pre .1 .2)
+  returns c = no-bytes (c .before .before .args .versions) (now (c .before .before .args .part)) _ _ _ _ _ (c .if1 .taken) (c .before .before .pre .1 .2) (c .before .before .pre .1 .3)
 
   returns-2 : lts.Need-returns-2 claims Pre reads.Post Inv μ
   returns-2 c = deepest (c .before .before .before .args .versions) (now (c .before .before .before .args .part)) _ _ _ _ _ (c .if2 .taken) (c .before .if1 .left)
 
-  add-depth : lts.Need-add-depth claims Pre reads.Post Inv μ
-  add-depth c = search needs
-
-  sub-depth : lts.Need-sub-depth claims Pre reads.Post Inv μ
-  sub-depth c = omega (arith, c .before .before .before .pre .1 .1)
-
   loop-holds : lts.Need-loop-holds claims Pre reads.Post Inv μ
-  loop-holds c = starts (c .before .before .before .args .versions) (now (c .before .before .before .args .part)) _ _ _ _ _ (omega (arith, c .if2 .left)) (c .before .before .before .pre .1 .2)
+  loop-holds c = starts (c .before .before .before .before .args .versions) (now (c .before .before .before .before .args .part)) _ _ _ _ _ (omega (arith, c .before .if2 .left)) (c .before .before .before .before .pre .1 .2) (c .before .before .before .before .pre .1 .3)
 
   add-place : lts.Need-add-place claims Pre reads.Post Inv μ
-  add-place c = omega (arith, c .before .before .before .before .before .pre .1 .0, c .loop-test .taken)
+  add-place c = omega (arith, c .before .before .before .before .before .before .pre .1 .0, c .loop-test .taken)
 
   object-at-requires : lts.Need-object-at-requires claims Pre reads.Post Inv μ
   object-at-requires c κs = c .loop-test .taken
@@ -66,53 +61,61 @@ module _ (t : ℕ) where
 
   returns-3 : lts.Need-returns-3 claims Pre reads.Post Inv μ
   returns-3 c =
-      let P = now (c .before .before .before .before .before .before .before .before .before .args .part) in
+      let P = now (c .before .before .before .before .before .before .before .before .before .before .args .part) in
       let w = c .before .before .before .before .before .loop in
-      let (place, e) = subst (Stands (c .before .before .before .before .before .before .before .before .before .args .versions) P (w .at)) (c .before .why .given .1) (c .before .before .before .object-at .ensures) in
-      faulty (c .before .before .before .before .before .before .before .before .before .args .versions) P _ _ _ _ _ (w .at) (w .seen) (w .inv) (c .before .before .before .before .loop-test .taken) _ place e
+      let (place, e) = subst (Stands (c .before .before .before .before .before .before .before .before .before .before .args .versions) P (w .at)) (c .before .why .given .1) (c .before .before .before .object-at .ensures) in
+      faulty (c .before .before .before .before .before .before .before .before .before .before .args .versions) P _ _ _ _ _ (w .at) _ (w .inv) (c .before .before .before .before .loop-test .taken) _ place e
 
   enum-known-next : lts.Need-enum-known-next claims Pre reads.Post Inv μ
   enum-known-next c = search needs
 
   leaf : (c : lts.After-known-told2 claims Pre reads.Post Inv μ)
-      → ObjectAt (c .before .before .before .before .before .before .before .before .before .args .versions) (now (c .before .before .before .before .before .before .before .before .before .args .part)) (c .before .before .before .before .before .loop .at) false (c .before .next .given .0 .0)
-  leaf c = subst (Stands (c .before .before .before .before .before .before .before .before .before .args .versions) (now (c .before .before .before .before .before .before .before .before .before .args .part)) (c .before .before .before .before .before .loop .at)) (c .before .next .given .1) (c .before .before .before .object-at .ensures)
+      → ObjectAt (c .before .before .before .before .before .before .before .before .before .before .args .versions) (now (c .before .before .before .before .before .before .before .before .before .before .args .part)) (c .before .before .before .before .before .loop .at) false (c .before .next .given .0 .0)
+  leaf c = subst (Stands (c .before .before .before .before .before .before .before .before .before .before .args .versions) (now (c .before .before .before .before .before .before .before .before .before .before .args .part)) (c .before .before .before .before .before .loop .at)) (c .before .next .given .1) (c .before .before .before .object-at .ensures)
 
   sub-size : lts.Need-sub-size claims Pre reads.Post Inv μ
-  sub-size c = omega (arith, leaf c .ends)
+  sub-size c = omega (arith, leaf (c .before) .ends)
 
   sub-size-2 : lts.Need-sub-size-2 claims Pre reads.Post Inv μ
-  sub-size-2 c = omega (arith, leaf c .ends)
+  sub-size-2 c = omega (arith, leaf (c .before) .ends)
+
+  add-depth : lts.Need-add-depth claims Pre reads.Post Inv μ
+  add-depth c = search needs
+
+  sub-depth : lts.Need-sub-depth claims Pre reads.Post Inv μ
+  sub-depth c = omega (arith, c .before .before .before .before .before .before .before .before .before .before .before .pre .1 .1)
 
   outermost-requires : lts.Need-outermost-requires claims Pre reads.Post Inv μ
   outermost-requires c κs = search needs
 
-  see-leaf-requires : lts.Need-see-leaf-requires claims Pre reads.Post Inv μ
-  see-leaf-requires c κs =
-      let w = c .before .before .before .before .before .before .loop in
-      (omega (arith, c .before .before .before .before .before .before .before .before .before .before .pre .1 .0, w .inv .few, w .inv .within), omega (arith, c .before .before .before .before .before .before .before .before .before .before .pre .1 .0, w .inv .within))
+  add-rows : lts.Need-add-rows claims Pre reads.Post Inv μ
+  add-rows c = omega (arith, c .before .before .before .before .before .before .before .before .before .before .before .pre .1 .0, c .before .before .before .before .before .before .loop .inv .few, c .before .before .before .before .before .before .loop .inv .within)
 
   loop-less : lts.Need-loop-less claims Pre reads.Post Inv μ
-  loop-less c = omega (arith, c .before .before .before .before .before .before .loop-test .taken, leaf (c .before .before) .ends, leaf (c .before .before) .inside)
+  loop-less c = omega (arith, c .before .before .before .before .before .loop-test .taken, leaf (c .before) .ends, leaf (c .before) .inside)
 
   loop-again : lts.Need-loop-again claims Pre reads.Post Inv μ
   loop-again c =
-      let w = c .before .before .before .before .before .before .before .loop in
-      leaf-passed (c .before .before .before .before .before .before .before .before .before .before .before .args .versions) (now (c .before .before .before .before .before .before .before .before .before .before .before .args .part)) _ _ _ _ _ (w .at) (w .seen) (w .inv) (c .before .before .before .before .before .before .loop-test .taken) _ _ _ _ (leaf (c .before .before)) refl
-      (c .before .outermost .ensures) (c .see-leaf .ensures)
+      let w = c .before .before .before .before .before .before .loop in
+      let way = c .before .before .before .before .before .loop-test .taken in
+      elim (c .if3 .came) [
+        | inl (found, outermost, is) ↦ leaf-found (c .before .before .before .before .before .before .before .before .before .before .before .args .versions) (now (c .before .before .before .before .before .before .before .before .before .before .before .args .part)) _ _ _ _ _ (w .at) _ (w .inv) way _ _ _ _ (leaf (c .before)) refl
+            (outermost .ensures) (found .taken) is
+        | inr (passed, is) ↦ leaf-passed (c .before .before .before .before .before .before .before .before .before .before .before .args .versions) (now (c .before .before .before .before .before .before .before .before .before .before .before .args .part)) _ _ _ _ _ (w .at) _ (w .inv) way _ _ (leaf (c .before)) (passed .left) is
+      ]
 
   enum-known-end : lts.Need-enum-known-end claims Pre reads.Post Inv μ
   enum-known-end c = search needs
 
   group : (c : lts.After-known-told3 claims Pre reads.Post Inv μ)
-      → ObjectAt (c .before .before .before .before .before .before .before .before .before .args .versions) (now (c .before .before .before .before .before .before .before .before .before .args .part)) (c .before .before .before .before .before .loop .at) true (c .before .end .given .0 .0)
-  group c = subst (Stands (c .before .before .before .before .before .before .before .before .before .args .versions) (now (c .before .before .before .before .before .before .before .before .before .args .part)) (c .before .before .before .before .before .loop .at)) (c .before .end .given .1) (c .before .before .before .object-at .ensures)
+      → ObjectAt (c .before .before .before .before .before .before .before .before .before .before .args .versions) (now (c .before .before .before .before .before .before .before .before .before .before .args .part)) (c .before .before .before .before .before .loop .at) true (c .before .end .given .0 .0)
+  group c = subst (Stands (c .before .before .before .before .before .before .before .before .before .before .args .versions) (now (c .before .before .before .before .before .before .before .before .before .before .args .part)) (c .before .before .before .before .before .loop .at)) (c .before .end .given .1) (c .before .before .before .object-at .ensures)
 
   add-body : lts.Need-add-body claims Pre reads.Post Inv μ
-  add-body c = omega (arith, c .before .before .before .before .before .before .before .before .before .pre .1 .0, group c .ends, group c .inside)
+  add-body c = omega (arith, c .before .before .before .before .before .before .before .before .before .before .pre .1 .0, group c .ends, group c .inside)
 
   add-inside : lts.Need-add-inside claims Pre reads.Post Inv μ
-  add-inside c = omega (arith, c .before .before .before .before .before .before .before .before .before .pre .1 .0, group c .ends, group c .inside)
+  add-inside c = omega (arith, c .before .before .before .before .before .before .before .before .before .before .pre .1 .0, group c .ends, group c .inside)
 
   outermost-requires-2 : lts.Need-outermost-requires-2 claims Pre reads.Post Inv μ
   outermost-requires-2 c κs = search needs
@@ -127,16 +130,16 @@ module _ (t : ℕ) where
   part-search-part-end c = omega (arith, group (c .before) .ends, group (c .before) .inside)
 
   sub-search-part-2 : lts.Need-sub-search-part-2 claims Pre reads.Post Inv μ
-  sub-search-part-2 c = omega (arith, c .before .before .before .before .before .before .before .before .if2 .left)
+  sub-search-part-2 c = omega (arith, c .before .before .before .before .before .before .before .before .before .if2 .left)
 
   search-part-requires : lts.Need-search-part-requires claims Pre reads.Post Inv μ
   search-part-requires c κs =
       let o = group (c .before .before) in
       let w = c .before .before .before .before .before .before .before .loop in
-      let h = c .before .before .before .before .before .before .before .before .before .before .before .pre in
-      let some = c .before .before .before .before .before .before .before .before .if2 .left in (
+      let h = c .before .before .before .before .before .before .before .before .before .before .before .before .pre in
+      let some = c .before .before .before .before .before .before .before .before .before .if2 .left in (
         omega (arith, h .0, some),
-        (omega (arith, h .1 .0, c .search-part-arg .given, o .ends, o .inside), omega (arith, h .1 .1), omega (arith, w .inv .few)),
+        (omega (arith, h .1 .0, c .search-part-arg .given, o .ends, o .inside), omega (arith, h .1 .1), omega (arith, w .inv .few), omega (arith, w .inv .low)),
       )
 
   enum-known-why-2 : lts.Need-enum-known-why-2 claims Pre reads.Post Inv μ
@@ -145,34 +148,32 @@ module _ (t : ℕ) where
   returns-4 : lts.Need-returns-4 claims Pre reads.Post Inv μ
   returns-4 c =
       let w = c .before .before .before .before .before .before .before .before .before .before .before .loop in
-      group-faulty (c .before .before .before .before .before .before .before .before .before .before .before .before .before .before .before .args .versions) (now (c .before .before .before .before .before .before .before .before .before .before .before .before .before .before .before .args .part)) _ _ _ _ _ (w .at) (w .seen) (w .inv) (c .before .before .before .before .before .before .before .before .before .before .loop-test .taken) _ _ (group (c .before .before .before .before .before .before)) (c .before .before .before .before .before .outermost2 .ensures)
-      (omega (arith, c .before .before .before .before .before .before .before .before .before .before .before .before .if2 .left)) (c .before .before .before .before .before .before .before .before .before .before .before .before .before .before .before .pre .1 .1) _ _
+      group-faulty (c .before .before .before .before .before .before .before .before .before .before .before .before .before .before .before .before .args .versions) (now (c .before .before .before .before .before .before .before .before .before .before .before .before .before .before .before .before .args .part)) _ _ _ _ _ (w .at) _ (w .inv) (c .before .before .before .before .before .before .before .before .before .before .loop-test .taken) _ _ (group (c .before .before .before .before .before .before)) (c .before .before .before .before .before .outermost2 .ensures)
+      (omega (arith, c .before .before .before .before .before .before .before .before .before .before .before .before .before .if2 .left)) (c .before .before .before .before .before .before .before .before .before .before .before .before .before .before .before .before .pre .1 .1) _ _
       (subst (Searched _ _ _ _ _ _ _) (ap searched (c .before .why2 .given .1)) (c .before .before .before .search-part .ensures))
 
   enum-known-more : lts.Need-enum-known-more claims Pre reads.Post Inv μ
   enum-known-more c = search needs
 
   loop-less-2 : lts.Need-loop-less-2 claims Pre reads.Post Inv μ
-  loop-less-2 c = omega (arith, c .before .before .before .before .before .before .before .before .before .before .loop-test .taken, group (c .before .before .before .before .before .before) .ends, group (c .before .before .before .before .before .before) .inside)
+  loop-less-2 c = omega (arith, c .before .before .before .before .before .before .before .before .before .before .before .loop-test .taken, group (c .before .before .before .before .before .before .before) .ends, group (c .before .before .before .before .before .before .before) .inside)
 
   loop-again-2 : lts.Need-loop-again-2 claims Pre reads.Post Inv μ
   loop-again-2 c =
-      let w = c .before .before .before .before .before .before .before .before .before .before .before .loop in
-      group-passed (c .before .before .before .before .before .before .before .before .before .before .before .before .before .before .before .args .versions) (now (c .before .before .before .before .before .before .before .before .before .before .before .before .before .before .before .args .part)) _ _ _ _ _ (w .at) (w .seen) (w .inv) (c .before .before .before .before .before .before .before .before .before .before .loop-test .taken) _ _ (group (c .before .before .before .before .before .before)) (c .before .before .before .before .before .outermost2 .ensures)
-      (omega (arith, c .before .before .before .before .before .before .before .before .before .before .before .before .if2 .left)) (c .before .before .before .before .before .before .before .before .before .before .before .before .before .before .before .pre .1 .1) _
-      (subst (Searched _ _ _ _ _ _ _) (ap searched (c .before .more .given .1)) (c .before .before .before .search-part .ensures))
+      let w = c .before .before .before .before .before .before .before .before .before .before .before .before .loop in
+      group-passed (c .before .before .before .before .before .before .before .before .before .before .before .before .before .before .before .before .before .args .versions) (now (c .before .before .before .before .before .before .before .before .before .before .before .before .before .before .before .before .before .args .part)) _ _ _ _ _ (w .at) _ (w .inv) (c .before .before .before .before .before .before .before .before .before .before .before .loop-test .taken) _ _ (group (c .before .before .before .before .before .before .before)) (c .before .before .before .before .before .before .outermost2 .ensures)
+      (omega (arith, c .before .before .before .before .before .before .before .before .before .before .before .before .before .before .if2 .left)) (c .before .before .before .before .before .before .before .before .before .before .before .before .before .before .before .before .before .pre .1 .1) _
+      (subst (Searched _ _ _ _ _ _ _) (ap searched (c .before .before .more .given .1)) (c .before .before .before .before .search-part .ensures))
 
   returns-5 : lts.Need-returns-5 claims Pre reads.Post Inv μ
   returns-5 c =
       let w = c .before .loop in
-      ends (c .before .before .before .before .before .args .versions) (now (c .before .before .before .before .before .args .part)) _ _ _ _ _ (w .at) (w .seen) (w .inv) (c .loop-test .left)
+      ends (c .before .before .before .before .before .before .args .versions) (now (c .before .before .before .before .before .before .args .part)) _ _ _ _ _ (w .at) _ (w .inv) (c .loop-test .left)
 
 pub +search-part-spec : {M : Type 1} → statement M
 +search-part-spec = close μ-call λ t. lts.spec (claims t) (Pre t) reads.Post Inv μ
     (returns t)
     (returns-2 t)
-    (add-depth t)
-    (sub-depth t)
     (loop-holds t)
     (add-place t)
     (object-at-requires t)
@@ -181,8 +182,10 @@ pub +search-part-spec : {M : Type 1} → statement M
     (enum-known-next t)
     (sub-size t)
     (sub-size-2 t)
+    (add-depth t)
+    (sub-depth t)
     (outermost-requires t)
-    (see-leaf-requires t)
+    (add-rows t)
     (loop-less t)
     (loop-again t)
     (enum-known-end t)

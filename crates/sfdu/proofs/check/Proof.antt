@@ -25,13 +25,13 @@ returns-2 : tie.Need-returns-2
 unfolding checkLabelled
 returns-2 c =
     counts-so-many _ (rowsOfFile (c .before .before .before .before .before .before .args .versions) (now (c .before .before .before .before .before .before .args .file))) _
-    (ap searched (sym (c .before .seen .given .1)) ∙ c .before .before .before .search-file .ensures)
+    (ap searched (sym (c .before .seen .given .1)) ∙ c .before .before .before .search-file .ensures .0)
 
 returns-3 : tie.Need-returns-3
 unfolding checkLabelled
 returns-3 c =
     meets-the-fault _ (rowsOfFile (c .before .before .before .before .before .before .args .versions) (now (c .before .before .before .before .before .before .args .file))) _ _ _
-    (ap searched (sym (c .before .why .given .1)) ∙ c .before .before .before .search-file .ensures)
+    (ap searched (sym (c .before .why .given .1)) ∙ c .before .before .before .search-file .ensures .0)
 
 pub check-spec : {M : Type 1} → statement M
 check-spec = tie.close (tie.spec returns search-file-requires enum-known-seen enum-known-why returns-2 returns-3)
