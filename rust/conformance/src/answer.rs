@@ -8,6 +8,9 @@ use std::fmt::{self, Display};
 /// The answer to a line that is no case.
 pub const BAD_LINE: &str = "bad line";
 
+/// A part that an answer does not have.
+const ABSENT: &str = "absent";
+
 /// Answers a line, whether or not it is a case.
 pub fn answer_line(library: &Library, line: &[u8]) -> String {
     Case::parse(line).map_or_else(|| BAD_LINE.to_string(), |case| answer(library, &case))
@@ -135,7 +138,7 @@ pub fn answer(library: &Library, case: &Case) -> String {
         } => judged((library.burst_verdict)(file, *start, *row, *position)),
         Case::Beams { mask } => match (library.beams)(*mask) {
             Beams::Inside(beams) => format!("ok inside {beams}"),
-            Beams::Above => "ok above absent".to_string(),
+            Beams::Above => format!("ok above {ABSENT}"),
         },
         Case::Mode { number } => match (library.mode)(*number) {
             Some(mode) => format!("ok {}", mode.number()),
@@ -161,7 +164,14 @@ fn line(answer: Result<impl Display, Refused>) -> String {
 }
 
 fn shown(answer: Result<Row<'_>, Refused>) -> String {
-    line(answer.map(|row| format!("{} {}", row.place, Bytes(row.bytes))))
+    line(answer.map(|row| {
+        let (depth, outermost) = match row.address.nesting {
+            Some(nesting) => (nesting.depth.to_string(), nesting.outermost.to_string()),
+            None => (ABSENT.to_string(), ABSENT.to_string()),
+        };
+        let (bytes, label) = (Bytes(row.bytes), row.address.label);
+        format!("{} {bytes} {label} {depth} {outermost}", row.place)
+    }))
 }
 
 /// Lends a copy of the case's memory to a call, and shows it behind the answer.

@@ -102,8 +102,8 @@ fn cut(line: &str) -> String {
 #[cfg(test)]
 mod tests {
     use super::*;
-    use crate::library::{Answer, INDEPENDENT};
-    use crestulbino::{Beams, Field, Kind, Refusal, Refused, Row, Versions};
+    use crate::library::{Answer, JumpLabelled, INDEPENDENT};
+    use crestulbino::{Beams, Field, Kind, Nesting, Refusal, Refused, Row, Versions, Window};
 
     fn compared_with(wrong: Library) -> Option<Difference> {
         let sides = Sides {
@@ -154,7 +154,72 @@ mod tests {
             panic!("{found}");
         };
         assert_eq!((INDEPENDENT.check)(Kind::Labelled(versions), &file), Ok(4));
-        assert!(file.len() < 5 * 20, "{found}");
+        assert!(file.len() < 6 * 20, "{found}");
+    }
+
+    /// Readers that are right about the bytes of a row and wrong about its address.
+    #[test]
+    fn a_wrong_address_is_found() {
+        type Reader = fn(Kind, &[u8], usize, Window) -> Answer<Row<'_>>;
+        fn with(
+            row: Answer<Row<'_>>,
+            change: impl FnOnce(&mut Row<'_>, &mut Nesting),
+        ) -> Answer<Row<'_>> {
+            row.map(|mut row| {
+                if let Some(mut nesting) = row.address.nesting {
+                    change(&mut row, &mut nesting);
+                    row.address.nesting = Some(nesting);
+                }
+                row
+            })
+        }
+        let wrong: [Reader; 5] = [
+            |kind, file, row, window| {
+                with((INDEPENDENT.read_row)(kind, file, row, window), |_, n| {
+                    n.depth = n.depth.min(7)
+                })
+            },
+            |kind, file, row, window| {
+                with((INDEPENDENT.read_row)(kind, file, row, window), |_, n| {
+                    n.depth = n.depth.min(1)
+                })
+            },
+            |kind, file, row, window| {
+                with((INDEPENDENT.read_row)(kind, file, row, window), |_, n| {
+                    n.outermost = 0
+                })
+            },
+            |kind, file, row, window| {
+                with((INDEPENDENT.read_row)(kind, file, row, window), |row, n| {
+                    n.outermost = row.address.label
+                })
+            },
+            |kind, file, row, window| {
+                with((INDEPENDENT.read_row)(kind, file, row, window), |row, _| {
+                    row.address.label += window.first
+                })
+            },
+        ];
+        for read_row in wrong {
+            let found = compared_with(Library {
+                read_row,
+                ..INDEPENDENT
+            });
+            assert!(found.is_some());
+        }
+        let jump_labelled: JumpLabelled = |versions, file, list, row, window| {
+            let mut row = (INDEPENDENT.jump_labelled)(versions, file, list, row, window)?;
+            row.address.nesting = Some(Nesting {
+                depth: 1,
+                outermost: row.address.label,
+            });
+            Ok(row)
+        };
+        let found = compared_with(Library {
+            jump_labelled,
+            ..INDEPENDENT
+        });
+        assert!(found.is_some());
     }
 
     /// A reader that is wrong about labels of version 2 only.

@@ -4,7 +4,9 @@
 
 use conformance::generator::random::Random;
 use conformance::library::{Library, INDEPENDENT, PROVED};
-use crestulbino::{Beams, Field, Kind, Mode, Refusal, Refused, Row, Verdict, Window};
+use crestulbino::{
+    Address, Beams, Field, Kind, Mode, Nesting, Refusal, Refused, Row, Text, Verdict, Window,
+};
 
 const LIBRARIES: [Library; 2] = [INDEPENDENT, PROVED];
 
@@ -104,10 +106,26 @@ fn read(of: Of, file: &[u8], place: usize) -> Field<'_> {
             let eight = file[place..place + 8].try_into().unwrap();
             Field::Float8(u64::from_le_bytes(eight))
         }
-        Of::Text(size) => Field::Text(Row {
+        Of::Text(size) => Field::Text(Text {
             place,
             bytes: &file[place..place + size],
         }),
+    }
+}
+
+/// A window of the record at a place.
+fn record(file: &[u8], place: usize, first: usize, count: usize) -> Row<'_> {
+    let nesting = Nesting {
+        depth: 0,
+        outermost: place,
+    };
+    Row {
+        place: place + first,
+        bytes: &file[place + first..place + first + count],
+        address: Address {
+            label: place,
+            nesting: Some(nesting),
+        },
     }
 }
 
@@ -280,10 +298,7 @@ fn every_first_place_of_a_file() {
             let place = start.wrapping_add(row.wrapping_mul(BURST));
             let expected = match rows {
                 Err(refused) => Err(refused),
-                Ok(rows) if row < rows => Ok(Row {
-                    place,
-                    bytes: &file[place..place + BURST],
-                }),
+                Ok(rows) if row < rows => Ok(record(&file, place, 0, BURST)),
                 Ok(_) => refused(Refusal::NoRow),
             };
             assert_eq!(found(library, &file, start, row), [expected; 3]);
@@ -306,10 +321,7 @@ fn every_place_of_a_file() {
     {
         let row = (library.row_from)(Kind::Bursts(start), &file, from);
         let expected = match begins.contains(&from) {
-            true => Ok(Row {
-                place: from,
-                bytes: &file[from..from + BURST],
-            }),
+            true => Ok(record(&file, from, 0, BURST)),
             false => refused(Refusal::NoRow),
         };
         assert_eq!(row, expected);
@@ -361,13 +373,9 @@ fn every_window_around_the_end_of_a_row() {
         .flat_map(|l| edges.iter().map(move |f| (l, f)))
     {
         for &count in &edges {
-            let place = 5 + BURST + first.min(BURST);
             let fits = first as u128 + count as u128 <= BURST as u128;
             let expected = match fits {
-                true => Ok(Row {
-                    place,
-                    bytes: &file[place..place + count],
-                }),
+                true => Ok(record(&file, 5 + BURST, first, count)),
                 false => refused(Refusal::NoPart),
             };
             let window = Window::new(first, count);

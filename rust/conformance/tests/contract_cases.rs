@@ -54,10 +54,19 @@ fn case_2_nineteen_zero_bytes() {
 fn case_3_the_demonstration_file() {
     let file = hex(DEMO);
     told(&format!("check_labelled {file}"), "ok 2");
-    told(&format!("read_row_labelled {file} 0 0 3"), "ok 40 616263");
-    told(&format!("read_row_labelled {file} 1 0 0"), "ok 63 -");
-    told(&format!("jump_labelled {file} 20 0 0 3"), "ok 40 616263");
-    told(&format!("jump_labelled {file} 20 1 0 0"), "ok 63 -");
+    told(
+        &format!("read_row_labelled {file} 0 0 3"),
+        "ok 40 616263 20 2 0",
+    );
+    told(&format!("read_row_labelled {file} 1 0 0"), "ok 63 - 43 2 0");
+    told(
+        &format!("jump_labelled {file} 20 0 0 3"),
+        "ok 40 616263 20 absent absent",
+    );
+    told(
+        &format!("jump_labelled {file} 20 1 0 0"),
+        "ok 63 - 43 absent absent",
+    );
     told(&format!("build_index {file} 7,8"), "ok 1 2 20,8");
     told(&format!("check_index {file} 20"), "ok");
     let label = hex(&DEMO[20..40]);
@@ -103,8 +112,14 @@ fn case_8_row_31() {
     file[65_536..65_540].copy_from_slice(b"turn");
     let file = hex(file);
     for call in ["read_row_waveform", "jump_waveform"] {
-        expect(&format!("{call} {file} 31 0 4"), "ok 64512 726f772e");
-        expect(&format!("{call} {file} 31 1024 4"), "ok 65536 7475726e");
+        expect(
+            &format!("{call} {file} 31 0 4"),
+            "ok 64512 726f772e 64512 0 64512",
+        );
+        expect(
+            &format!("{call} {file} 31 1024 4"),
+            "ok 65536 7475726e 64512 0 64512",
+        );
         expect(&format!("{call} {file} 32 1024 4"), "ref 6 0");
     }
 }
@@ -113,7 +128,7 @@ fn case_8_row_31() {
 fn case_9_the_end_of_a_waveform_row() {
     let file = hex([0; 2_080]);
     for call in ["read_row_waveform", "jump_waveform"] {
-        expect(&format!("{call} {file} 0 2048 0"), "ok 2080 -");
+        expect(&format!("{call} {file} 0 2048 0"), "ok 2080 - 32 0 32");
         expect(&format!("{call} {file} 0 2048 1"), "ref 7 0");
         expect(&format!("{call} {file} 0 2049 0"), "ref 7 0");
     }

@@ -9,7 +9,7 @@ use independent::label;
 use independent::labelled::{check, leaves, read_row, Leaf};
 use independent::orbit::{opening, Opening};
 use independent::row_index::{self, Built};
-use independent::window::Window;
+use independent::window::{Nesting, Window};
 
 const FIRST: label::Versions = label::Versions::First;
 
@@ -106,10 +106,14 @@ fn both_records_end_to_end() {
     assert_eq!(list, [20, 0]);
     for number in 0..4 {
         let window = Window::new(1, 20);
-        assert_eq!(
-            row_index::jump(FIRST, &file, &list[..1], number, window),
-            read_row(FIRST, &file, number, window)
-        );
+        let mut read = read_row(FIRST, &file, number, window).unwrap();
+        let nesting = Nesting {
+            depth: 2,
+            outermost: if number < 2 { 0 } else { 409 },
+        };
+        assert_eq!(read.address.nesting.take(), Some(nesting));
+        let jumped = row_index::jump(FIRST, &file, &list[..1], number, window);
+        assert_eq!(jumped, Ok(read));
     }
 }
 

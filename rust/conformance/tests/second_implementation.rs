@@ -4,7 +4,7 @@
 use conformance::generator::{files, random::Random};
 use independent::label::Versions;
 use independent::refusal::{Reason, Refusal};
-use independent::window::Window;
+use independent::window::{Address, Nesting, Part, Window};
 use independent::{label, labelled, row_index};
 
 /// The check once more, as one function that calls itself on each group.
@@ -58,6 +58,65 @@ fn the_pass_agrees_with_recursion() {
     assert!((1_000..6_000).contains(&accepted), "{accepted} accepted");
 }
 
+/// What a jump tells of a row that was read, which has all parts of its address.
+fn without_depth(mut part: Part<'_>) -> Part<'_> {
+    part.address.nesting.take().expect("a known depth");
+    part
+}
+
+/// The rows of the part of a file between two places, with the place of the outermost object around it:
+/// the place of the label, the depth, the outermost place.
+fn addresses(
+    file: &[u8],
+    (mut place, end): (usize, usize),
+    around: &[usize],
+) -> Vec<(u64, Nesting)> {
+    let mut rows = Vec::new();
+    while place < end {
+        let label = label::read(Versions::Both, &file[place..]).unwrap();
+        let value = place + 20;
+        let within = [around, &[place]].concat();
+        if label.is_group() {
+            rows.extend(addresses(
+                file,
+                (value, value + label.length as usize),
+                &within,
+            ));
+        } else {
+            let nesting = Nesting {
+                depth: within.len() as u64,
+                outermost: within[0] as u64,
+            };
+            rows.push((place as u64, nesting));
+        }
+        place = value + label.length as usize;
+    }
+    rows
+}
+
+#[test]
+fn addresses_agree_with_recursion() {
+    let mut random = Random::new(18);
+    let mut depths = [0; 9];
+    for _ in 0..1_500 {
+        let file = files::labelled(&mut random).bytes;
+        if labelled::check(Versions::Both, &file).is_err() {
+            continue;
+        }
+        let rows = addresses(&file, (0, file.len()), &[]);
+        for (number, (label, nesting)) in (0..).zip(rows) {
+            let row = labelled::read_row(Versions::Both, &file, number, Window::new(0, 0)).unwrap();
+            let address = Address {
+                label,
+                nesting: Some(nesting),
+            };
+            assert_eq!((row.address, row.place), (address, label + 20));
+            depths[nesting.depth as usize] += 1;
+        }
+    }
+    assert!(depths[1..].iter().all(|&rows| rows > 50), "{depths:?}");
+}
+
 #[test]
 fn a_right_index_gives_what_reading_gives() {
     let mut random = Random::new(16);
@@ -74,7 +133,7 @@ fn a_right_index_gives_what_reading_gives() {
             for window in [Window::new(0, 0), Window::new(1, 2), Window::new(0, 20)] {
                 assert_eq!(
                     row_index::jump(Versions::Both, &file, &list[..used], number, window),
-                    labelled::read_row(Versions::Both, &file, number, window)
+                    labelled::read_row(Versions::Both, &file, number, window).map(without_depth)
                 );
             }
         }
@@ -94,7 +153,7 @@ fn going_on_from_row_to_row_gives_what_reading_gives() {
             let part = labelled::row_from(Versions::Both, &file, from).unwrap();
             let whole = Window::new(0, part.bytes.len() as u64);
             assert_eq!(
-                labelled::read_row(Versions::Both, &file, number, whole),
+                labelled::read_row(Versions::Both, &file, number, whole).map(without_depth),
                 Ok(part)
             );
             from = part.place + part.bytes.len() as u64;

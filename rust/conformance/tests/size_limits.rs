@@ -5,7 +5,7 @@
 
 use conformance::library::{INDEPENDENT, PROVED};
 use conformance::Library;
-use crestulbino::{Field, Kind, Refusal, Refused, Row, Verdict, Version, Versions, Window};
+use crestulbino::{Field, Kind, Refusal, Refused, Row, Text, Verdict, Version, Versions, Window};
 
 const BOTH: [Library; 2] = [INDEPENDENT, PROVED];
 
@@ -307,7 +307,7 @@ fn the_largest_burst_file() {
         }
         let of = |position| (library.burst_field)(&file, BURSTS_START, rows - 1, position);
         assert_eq!(of(33), Ok(Field::Unsigned(31)));
-        let target = Row {
+        let target = Text {
             place: last + 672,
             bytes: b"TITAN           ",
         };

@@ -64,3 +64,11 @@ fn stored_answers_of_bursts() {
         include_str!("data/bursts.answers"),
     );
 }
+
+#[test]
+fn stored_answers_of_addresses() {
+    same(
+        include_str!("data/address.cases"),
+        include_str!("data/address.answers"),
+    );
+}

@@ -426,6 +426,30 @@ fn chain(random: &mut Random) -> Vec<Object> {
     inside
 }
 
+/// Rows in front of and behind the group at each depth, in outermost objects one behind the other.
+fn stairs(random: &mut Random) -> Vec<Object> {
+    let mut objects = Vec::new();
+    for _ in 0..random.between(1, 3) {
+        let deepest = random.weighted(&[(4, 8), (1, 7), (1, 3), (1, 2), (1, 1)]);
+        let mut inside = vec![leaf(random)];
+        for _ in 1..deepest {
+            let mut around = vec![group(random, inside)];
+            if random.chance(70) {
+                around.push(leaf(random));
+            }
+            if random.chance(70) {
+                around.insert(0, leaf(random));
+            }
+            inside = around;
+        }
+        objects.extend(inside);
+        if random.chance(30) {
+            objects.push(group(random, Vec::new()));
+        }
+    }
+    objects
+}
+
 /// A file whose later rows stand beyond 65,536.
 fn large(random: &mut Random) -> Vec<Object> {
     let before = random.between(0, 17);
@@ -481,6 +505,7 @@ enum Shape {
     Published,
     Rows,
     Chain,
+    Stairs,
     Tree,
     Large,
 }
@@ -500,6 +525,7 @@ pub fn labelled_with(mix: Mix, random: &mut Random) -> LabelledFile {
         (6, Shape::Published),
         (42, Shape::Rows),
         (20, Shape::Chain),
+        (15, Shape::Stairs),
         (21, Shape::Tree),
         (1, Shape::Large),
     ]);
@@ -520,6 +546,7 @@ pub fn labelled_with(mix: Mix, random: &mut Random) -> LabelledFile {
             written(&forest(random, rows, 1, grouping))
         }
         Shape::Chain => written(&chain(random)),
+        Shape::Stairs => written(&stairs(random)),
         Shape::Tree => {
             let leaves = random.between(0, 6);
             written(&forest(random, leaves, 1, 50))
@@ -1061,7 +1088,7 @@ mod tests {
             assert_eq!(rows, spots.len() as u64);
             for (spot, leaf) in spots.iter().zip(leaves(BOTH, &file.bytes).unwrap()) {
                 let leaf = leaf.unwrap();
-                assert_eq!(spot.place as u64, leaf.place);
+                assert_eq!(spot.place as u64, leaf.row.address.label);
                 assert_eq!(spot.length as u64, leaf.row.length);
                 assert!(spot.length <= spot.room);
             }

@@ -2,8 +2,8 @@
 
 use super::Library;
 use crestulbino::{
-    Beams, Built, Field, Kind, Label, Mode, Opening, Refusal, Refused, Row, Verdict, Version,
-    Versions, Window,
+    Address, Beams, Built, Field, Kind, Label, Mode, Nesting, Opening, Refusal, Refused, Row, Text,
+    Verdict, Version, Versions, Window,
 };
 use independent::refusal::{self, Reason};
 use independent::{
@@ -95,7 +95,10 @@ pub const INDEPENDENT: Library = Library {
             bursts::Value::Signed(number) => Field::Signed(number.into()),
             bursts::Value::Float4(bits) => Field::Float4(bits),
             bursts::Value::Float8(bits) => Field::Float8(bits),
-            bursts::Value::Text(part) => Field::Text(row_of(part)),
+            bursts::Value::Text(text) => Field::Text(Text {
+                place: text.place as usize,
+                bytes: text.bytes,
+            }),
         })
     },
     burst_verdict: |file, start, row, position| {
@@ -146,9 +149,17 @@ fn shown(answer: Result<window::Part<'_>, refusal::Refusal>) -> Result<Row<'_>, 
 }
 
 fn row_of(part: window::Part<'_>) -> Row<'_> {
+    let nesting = part.address.nesting.map(|nesting| Nesting {
+        depth: nesting.depth as usize,
+        outermost: nesting.outermost as usize,
+    });
     Row {
         place: part.place as usize,
         bytes: part.bytes,
+        address: Address {
+            label: part.address.label as usize,
+            nesting,
+        },
     }
 }
 
