@@ -28,14 +28,6 @@ module _ (versions : Versions) where
   unfolding rowsOfFile
   not-too-big f h = rw (le-leb (length f) largestFile h)
 
-  pub too-big-to-check : (f : List ℕ) → largestFile < length f → checkLabelled versions f ≡ refuse 14 0
-  unfolding checkLabelled
-  too-big-to-check f h = ap counting (too-big f h)
-
-  pub too-big-to-read : (f : List ℕ) (k : ℕ) → largestFile < length f → findRow versions f k ≡ refuse 14 0
-  unfolding findRow
-  too-big-to-read f k h = after-refusal (rowsOfFile versions f) _ 14 0 (too-big f h)
-
   -- the nested search of the whole file sees the file's rows
   pub whole-file : (f : List ℕ) (k : ℕ) (r : Outcome Seen) → length f ≤ largestFile → Searched versions f 0 8 (λ at. at) k nothingSeen r
       → (r ≡ mapped (seeAll k nothingSeen) (rowsOfFile versions f)) × MarksInside r

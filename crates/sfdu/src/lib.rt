@@ -158,11 +158,13 @@ fn search_part(
     Search::Is(Seen { rows, mark })
 }
 
-// Searches a whole file, which is not too big, for row `k`.
+// Searches a whole file for row `k`: 14, then its first fault.
 fn search_file(versions: Versions, file: &[u8], k: usize) -> Search
-    requires { ⌜ length (now file) ≤ largestFile ⌝ }
     ensures { λ r. ⌜ (searched r ≡ mapped (seeAll k nothingSeen) (rowsOfFile versions (now (file .entry)))) × MarksInside (searched r) ⌝ }
 {
+    if answer::LARGEST_FILE < file.len() {
+        return Search::Fault(Refusal::TooBig, 0);
+    }
     let mark = Mark {
         label: 0,
         size: 0,
@@ -184,9 +186,6 @@ fn search_file(versions: Versions, file: &[u8], k: usize) -> Search
 pub fn check(versions: Versions, file: &[u8]) -> Count
     ensures { λ r. ⌜ counted r ≡ checkLabelled versions (now (file .entry)) ⌝ }
 {
-    if answer::LARGEST_FILE < file.len() {
-        return Count::Refused(Refusal::TooBig, 0);
-    }
     match search_file(versions, file, 0) {
         Search::Is(seen) => Count::Is(seen.rows),
         Search::Fault(why, place) => Count::Refused(why, place),
@@ -216,9 +215,6 @@ fn marked_row(mark: Mark) -> Shown
 pub fn find_row(versions: Versions, file: &[u8], k: usize) -> Show
     ensures { λ r. ⌜ shown r ≡ findRow versions (now (file .entry)) k ⌝ }
 {
-    if answer::LARGEST_FILE < file.len() {
-        return Show::Refused(Refusal::TooBig, 0);
-    }
     match search_file(versions, file, k) {
         Search::Is(seen) => {
             if k < seen.rows {

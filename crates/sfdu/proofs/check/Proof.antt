@@ -1,16 +1,12 @@
--- `sfdu::check` meets its contract: too big, or what the search of the file has counted.
+-- `sfdu::check` meets its contract: what the search of the file has counted, or met.
 use mathlib.Core.Path.{_∙_, sym, ap}
 use denote.Ref.{now}
 use Rattle.sfdu.specs.Check.{rowsOfFile, checkLabelled}
 use Rattle.sfdu.specs.Private.{searched}
-use Rattle.sfdu.proofs.Checking.{too-big-to-check}
 use Rattle.sfdu.proofs.Seeing.{counts-so-many, meets-the-fault}
 use borrow.Author.Needs.{needs}
 use Rattle.sfdu.proofs.check.Statement.{statement}
 use Rattle.sfdu.proofs.check.Tie as tie
-
-returns : tie.Need-returns
-returns c = sym (too-big-to-check (c .before .before .args .versions) (now (c .before .before .args .file)) (c .if1 .taken))
 
 search-file-requires : tie.Need-search-file-requires
 search-file-requires c κs = search needs
@@ -21,17 +17,19 @@ enum-known-seen c = search needs
 enum-known-why : tie.Need-enum-known-why
 enum-known-why c = search needs
 
+returns : tie.Need-returns
+unfolding checkLabelled
+returns c =
+    let a = c .before .before .before .before .before .args in
+    counts-so-many _ (rowsOfFile (a .versions) (now (a .file))) _
+    (ap searched (sym (c .before .seen .given .1)) ∙ c .before .before .before .search-file .ensures .0)
+
 returns-2 : tie.Need-returns-2
 unfolding checkLabelled
 returns-2 c =
-    counts-so-many _ (rowsOfFile (c .before .before .before .before .before .before .args .versions) (now (c .before .before .before .before .before .before .args .file))) _
-    (ap searched (sym (c .before .seen .given .1)) ∙ c .before .before .before .search-file .ensures .0)
-
-returns-3 : tie.Need-returns-3
-unfolding checkLabelled
-returns-3 c =
-    meets-the-fault _ (rowsOfFile (c .before .before .before .before .before .before .args .versions) (now (c .before .before .before .before .before .before .args .file))) _ _ _
+    let a = c .before .before .before .before .before .args in
+    meets-the-fault _ (rowsOfFile (a .versions) (now (a .file))) _ _ _
     (ap searched (sym (c .before .why .given .1)) ∙ c .before .before .before .search-file .ensures .0)
 
 pub check-spec : {M : Type 1} → statement M
-check-spec = tie.close (tie.spec returns search-file-requires enum-known-seen enum-known-why returns-2 returns-3)
+check-spec = tie.close (tie.spec search-file-requires enum-known-seen enum-known-why returns returns-2)

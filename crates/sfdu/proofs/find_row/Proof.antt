@@ -1,18 +1,14 @@
--- `sfdu::find_row` meets its contract: too big, or the row that the search of the file has seen.
+-- `sfdu::find_row` meets its contract: the row that the search of the file has marked, or what it has met.
 use mathlib.Core.Path.{_∙_, sym, ap, subst}
 use denote.Ref.{now}
+use Rattle.answer.specs.Outcome.{answer}
 use Rattle.sfdu.specs.Check.{rowsOfFile}
 use Rattle.sfdu.specs.Find.{findRow}
-use Rattle.answer.specs.Outcome.{answer}
 use Rattle.sfdu.specs.Private.{searched, MarksInside}
-use Rattle.sfdu.proofs.Checking.{too-big-to-read}
 use Rattle.sfdu.proofs.Seeing.{finds-the-row, finds-no-row, meets-the-fault}
 use borrow.Author.Needs.{needs}
 use Rattle.sfdu.proofs.find_row.Statement.{statement}
 use Rattle.sfdu.proofs.find_row.Tie as tie
-
-returns : tie.Need-returns
-returns c = sym (too-big-to-read (c .before .before .args .versions) (now (c .before .before .args .file)) _ (c .if1 .taken))
 
 search-file-requires : tie.Need-search-file-requires
 search-file-requires c κs = search needs
@@ -23,27 +19,30 @@ enum-known-seen c = search needs
 marked-row-requires : tie.Need-marked-row-requires
 marked-row-requires c κs = subst MarksInside (ap searched (c .before .before .before .before .seen .given .1)) (c .before .before .before .before .before .before .search-file .ensures .1)
 
-returns-2 : tie.Need-returns-2
+returns : tie.Need-returns
 unfolding findRow
-returns-2 c =
+returns c =
+    let a = c .before .before .before .before .before .before .before .before .before .args in
     ap answer (c .marked-row .ensures)
-    ∙ finds-the-row _ (rowsOfFile (c .before .before .before .before .before .before .before .before .before .before .args .versions) (now (c .before .before .before .before .before .before .before .before .before .before .args .file))) _
-    (ap searched (sym (c .before .before .before .before .before .seen .given .1)) ∙ c .before .before .before .before .before .before .before .search-file .ensures .0) (c .before .before .if2 .taken)
+    ∙ finds-the-row _ (rowsOfFile (a .versions) (now (a .file))) _
+    (ap searched (sym (c .before .before .before .before .before .seen .given .1)) ∙ c .before .before .before .before .before .before .before .search-file .ensures .0) (c .before .before .if1 .taken)
 
 enum-known-why : tie.Need-enum-known-why
 enum-known-why c = search needs
 
+returns-2 : tie.Need-returns-2
+unfolding findRow
+returns-2 c =
+    let a = c .before .before .before .before .before .before .before .args in
+    finds-no-row _ (rowsOfFile (a .versions) (now (a .file))) _
+    (ap searched (sym (c .before .before .before .seen .given .1)) ∙ c .before .before .before .before .before .search-file .ensures .0) (c .if1 .left)
+
 returns-3 : tie.Need-returns-3
 unfolding findRow
 returns-3 c =
-    finds-no-row _ (rowsOfFile (c .before .before .before .before .before .before .before .before .args .versions) (now (c .before .before .before .before .before .before .before .before .args .file))) _
-    (ap searched (sym (c .before .before .before .seen .given .1)) ∙ c .before .before .before .before .before .search-file .ensures .0) (c .if2 .left)
-
-returns-4 : tie.Need-returns-4
-unfolding findRow
-returns-4 c =
-    meets-the-fault _ (rowsOfFile (c .before .before .before .before .before .before .args .versions) (now (c .before .before .before .before .before .before .args .file))) _ _ _
+    let a = c .before .before .before .before .before .args in
+    meets-the-fault _ (rowsOfFile (a .versions) (now (a .file))) _ _ _
     (ap searched (sym (c .before .why .given .1)) ∙ c .before .before .before .search-file .ensures .0)
 
 pub find-row-spec : {M : Type 1} → statement M
-find-row-spec = tie.close (tie.spec returns search-file-requires enum-known-seen marked-row-requires returns-2 enum-known-why returns-3 returns-4)
+find-row-spec = tie.close (tie.spec search-file-requires enum-known-seen marked-row-requires returns enum-known-why returns-2 returns-3)
