@@ -5,11 +5,10 @@
 // numbers: place, count, its label's place, 1 or 0 for whether its depth is known, its depth, its
 // outermost object's place. What is answered is left to the crates below; the C declarations, and what
 // a C caller owes, are left to the header.
-mod hand;
-
 use burst_codes::Compression;
 use burst_codes::Enabled;
 use hand::Numbered;
+use hand::Result;
 use hand::Told;
 use label::LabelRead;
 use limits::Table;
@@ -35,16 +34,9 @@ ghost use Rattle.verdicts.specs.Verdict.{verdictOf};
 ghost use Rattle.burst_fields.specs.Fields.{fieldOf, fieldVerdict};
 ghost use Rattle.burst_codes.specs.Beams.{verdictIn, beamsOf};
 ghost use Rattle.burst_codes.specs.Modes.{numbered};
-ghost use Rattle.capi.specs.Handed.{resultOf, handed};
-ghost use Rattle.capi.specs.Parts.{fourBytes, rowNumbers, sideNumber, inNumbers, beamsHanded, modeHanded};
-ghost use Rattle.capi.specs.Numbers.{choiceOf, writeNumbered};
-
-// What every call returns: a refusal's number and its place; 0 and 0 for an answer.
-#[repr(C)]
-pub struct Result {
-    pub refusal: usize,
-    pub place: usize,
-}
+ghost use Rattle.hand.specs.Handed.{resultOf, handed};
+ghost use Rattle.hand.specs.Parts.{fourBytes, rowNumbers, sideNumber, inNumbers, beamsHanded, modeHanded};
+ghost use Rattle.hand.specs.Numbers.{choiceOf, writeNumbered};
 
 // The label at the front of the bytes.
 #[no_mangle]

@@ -2,7 +2,7 @@
 use mathlib.Core.Path.{_∙_, sym, ap}
 use denote.Ref.{now}
 use Rattle.burst_codes.specs.Beams.{MaskVerdict, beamsIn, verdictIn}
-use Rattle.capi.specs.Parts.{sideNumber, beamsHanded}
+use Rattle.hand.specs.Parts.{sideNumber, beamsHanded}
 use borrow.Author.Needs.{needs}
 use Rattle.capi.proofs.crest_beams.Statement.{statement}
 use Rattle.capi.proofs.crest_beams.Tie as tie

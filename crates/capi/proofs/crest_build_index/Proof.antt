@@ -1,7 +1,7 @@
 -- `capi::crest_build_index` meets its contract: by what `build_index` answered; it leaves the list as promised.
 use mathlib.Core.Path.{_∙_, sym, ap}
 use Rattle.row_index.specs.Index.{built}
-use Rattle.capi.proofs.Handing.{answered-result, answered-part, refused-result, refused-part}
+use Rattle.hand.proofs.Handing.{answered-result, answered-part, refused-result, refused-part}
 use borrow.Author.Needs.{needs}
 use Rattle.capi.proofs.crest_build_index.Statement.{statement}
 use Rattle.capi.proofs.crest_build_index.Tie as tie

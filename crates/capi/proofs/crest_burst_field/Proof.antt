@@ -1,8 +1,8 @@
 -- `capi::crest_burst_field` meets its contract: by what the field holds, in numbers.
 use mathlib.Core.Path.{_∙_, sym, ap}
 use Rattle.answer.specs.Outcome.{mapped}
-use Rattle.capi.specs.Parts.{inNumbers, told}
-use Rattle.capi.proofs.Handing.{answered-result, answered-part, refused-result, refused-part}
+use Rattle.hand.specs.Parts.{inNumbers, told}
+use Rattle.hand.proofs.Handing.{answered-result, answered-part, refused-result, refused-part}
 use borrow.Author.Needs.{needs}
 use Rattle.capi.proofs.crest_burst_field.Statement.{statement}
 use Rattle.capi.proofs.crest_burst_field.Tie as tie

@@ -1,7 +1,7 @@
 -- `capi::crest_check_index` meets its contract: by what `check_index` answered.
 use mathlib.Core.Path.{_∙_, sym, ap}
 use Rattle.row_index.specs.Index.{accepted}
-use Rattle.capi.proofs.Handing.{answered-result, refused-result}
+use Rattle.hand.proofs.Handing.{answered-result, refused-result}
 use borrow.Author.Needs.{needs}
 use Rattle.capi.proofs.crest_check_index.Statement.{statement}
 use Rattle.capi.proofs.crest_check_index.Tie as tie

@@ -1,5 +1,5 @@
 -- `capi::crest_keep_index` meets its contract: what `keep` wrote, and its count handed over.
-use Rattle.capi.proofs.Handing.{written-and-handed}
+use Rattle.hand.proofs.Handing.{written-and-handed}
 use borrow.Author.Needs.{needs}
 use Rattle.capi.proofs.crest_keep_index.Statement.{statement}
 use Rattle.capi.proofs.crest_keep_index.Tie as tie

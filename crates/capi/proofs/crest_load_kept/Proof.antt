@@ -1,5 +1,5 @@
 -- `capi::crest_load_kept` meets its contract: what `load` wrote, and its count handed over.
-use Rattle.capi.proofs.Handing.{written-and-handed}
+use Rattle.hand.proofs.Handing.{written-and-handed}
 use borrow.Author.Needs.{needs}
 use Rattle.capi.proofs.crest_load_kept.Statement.{statement}
 use Rattle.capi.proofs.crest_load_kept.Tie as tie

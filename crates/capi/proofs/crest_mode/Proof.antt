@@ -1,7 +1,7 @@
 -- `capi::crest_mode` meets its contract: by the mode.
 use mathlib.Core.Path.{_∙_, sym, ap}
 use Rattle.burst_codes.specs.Modes.{modeNumber}
-use Rattle.capi.specs.Parts.{modeHanded}
+use Rattle.hand.specs.Parts.{modeHanded}
 use borrow.Author.Needs.{needs}
 use Rattle.capi.proofs.crest_mode.Statement.{statement}
 use Rattle.capi.proofs.crest_mode.Tie as tie

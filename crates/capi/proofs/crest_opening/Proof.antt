@@ -1,7 +1,7 @@
 -- `capi::crest_opening` meets its contract: by what `per_orbit_opening` answered.
 use mathlib.Core.Path.{_∙_, sym, ap}
 use Rattle.orbit.specs.Opening.{opened}
-use Rattle.capi.proofs.Handing.{answered-result, answered-part, refused-result, refused-part}
+use Rattle.hand.proofs.Handing.{answered-result, answered-part, refused-result, refused-part}
 use borrow.Author.Needs.{needs}
 use Rattle.capi.proofs.crest_opening.Statement.{statement}
 use Rattle.capi.proofs.crest_opening.Tie as tie

@@ -3,7 +3,7 @@ use mathlib.Core.Path.{_∙_, sym, ap}
 use Rattle.label.specs.declared.Label.{Label}
 use Rattle.label.specs.Version.{versionNumber}
 use Rattle.label.specs.Label.{told}
-use Rattle.capi.proofs.Handing.{answered-result, answered-part, refused-result, refused-part}
+use Rattle.hand.proofs.Handing.{answered-result, answered-part, refused-result, refused-part}
 use borrow.Author.Needs.{needs}
 use Rattle.capi.proofs.crest_read_label.Statement.{statement}
 use Rattle.capi.proofs.crest_read_label.Tie as tie

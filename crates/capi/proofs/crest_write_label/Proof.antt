@@ -9,8 +9,8 @@ use Rattle.answer.specs.Filled.{Writes, filled}
 use Rattle.answer.proofs.Outcomes.{after-answer, after-refusal}
 use Rattle.label.specs.declared.Version.{Version}
 use Rattle.label_writer.specs.Write.{writeLabel}
-use Rattle.capi.specs.Numbers.{numberedVersion, versionRead, writeNumbered}
-use Rattle.capi.proofs.Handing.{refused-result, refused-part, written-and-handed}
+use Rattle.hand.specs.Numbers.{numberedVersion, versionRead, writeNumbered}
+use Rattle.hand.proofs.Handing.{refused-result, refused-part, written-and-handed}
 use borrow.Author.Needs.{needs}
 use Rattle.capi.proofs.crest_write_label.Statement.{statement}
 use Rattle.capi.proofs.crest_write_label.Tie as tie

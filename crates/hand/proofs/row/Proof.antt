@@ -1,4 +1,4 @@
--- `capi::hand::row` meets its contract: by what was answered, and by whether the depth is known.
+-- `hand::row` meets its contract: by what was answered, and by whether the depth is known.
 use Prim.Native.Nat.{ℕ}
 use mathlib.Core.Path.{_≡_, _∙_, sym, ap}
 use mathlib.Core.List.{List, [], _∷_}
@@ -7,11 +7,11 @@ use denote.Ref.{now}
 use Rattle.answer.specs.Window.{shown}
 use Rattle.answer.specs.declared.Nesting.{Nesting}
 use Rattle.answer.specs.declared.Shown.{Shown}
-use Rattle.capi.specs.Parts.{nestingNumber, depthHanded, outermostHanded, rowNumbers}
-use Rattle.capi.proofs.Handing.{answered-result, answered-part, refused-result, refused-part}
+use Rattle.hand.specs.Parts.{nestingNumber, depthHanded, outermostHanded, rowNumbers}
+use Rattle.hand.proofs.Handing.{answered-result, answered-part, refused-result, refused-part}
 use borrow.Author.Needs.{needs}
-use Rattle.capi.proofs.hand.row.Statement.{statement}
-use Rattle.capi.proofs.hand.row.Tie as tie
+use Rattle.hand.proofs.row.Statement.{statement}
+use Rattle.hand.proofs.row.Tie as tie
 
 -- the six numbers of a row that is nested so
 in-six : (old : List ℕ) (s : Shown) {n : Nesting} → s .address .nesting ≡ n

@@ -1,13 +1,13 @@
--- `capi::hand::signed_bits` meets its contract: by the sign.
+-- `hand::signed_bits` meets its contract: by the sign.
 use native.Mathlib.Omega.{arith}
 use mathlib.Core.Path.{_∙_, sym, ap}
 use lib.IntN.{natAbs}
 use mir.Syntax.{w64}
 use mir.Facts.{toZ-ofZ, toZ-pos}
-use Rattle.capi.specs.Parts.{bitsOf}
-use Rattle.capi.proofs.SignedBits.{below-0, not-below-0, distance}
-use Rattle.capi.proofs.hand.signed_bits.Statement.{statement}
-use Rattle.capi.proofs.hand.signed_bits.Tie as tie
+use Rattle.hand.specs.Parts.{bitsOf}
+use Rattle.hand.proofs.SignedBits.{below-0, not-below-0, distance}
+use Rattle.hand.proofs.signed_bits.Statement.{statement}
+use Rattle.hand.proofs.signed_bits.Tie as tie
 
 sub-below : tie.Need-sub-below
 sub-below c =

@@ -13,9 +13,9 @@ use Rattle.verdicts.specs.Verdict.{Side, below, inside, above}
 use Rattle.burst_fields.specs.Fields as field
 use Rattle.burst_codes.specs.Beams as mask
 use Rattle.burst_codes.specs.Modes as compression
-use Rattle.capi.specs.declared.hand.Stored.{Stored}
-use Rattle.capi.specs.declared.hand.Told.{Told}
-use Rattle.capi.specs.declared.hand.Told.the-variants.{Is, Refused}
+use Rattle.hand.specs.declared.Stored.{Stored}
+use Rattle.hand.specs.declared.Told.{Told}
+use Rattle.hand.specs.declared.Told.the-variants.{Is, Refused}
 
 -- four characters as four bytes
 abbrev pub fourBytes : Four → List ℕ

@@ -1,6 +1,7 @@
-// How numbers of the boundary become the library's choices, and how an answer of the library is handed
-// over: its parts through the pointers, and the result by value. On a refusal no pointer is written.
-use crate::Result;
+// How numbers of the C boundary become the library's choices, and how an answer of the library is
+// handed over: its parts through the pointers, and the result by value. On a refusal no pointer is
+// written. Renders document 01's "Every refusal carries its number and a place" as numbers. The
+// exported functions are left to `capi`.
 use answer::Count;
 use answer::Nesting;
 use answer::Refusal;
@@ -19,9 +20,16 @@ ghost use Rattle.answer.specs.Outcome.{mapped};
 ghost use Rattle.vax.specs.Decoded.{decoded};
 ghost use Rattle.burst_fields.specs.Fields.{valued};
 ghost use Rattle.verdicts.specs.Judged.{judged};
-ghost use Rattle.capi.specs.Parts.{rowNumbers, sideNumber, bitsOf, inNumbers, told};
-ghost use Rattle.capi.specs.Handed.{refusedAs, resultOf, handed};
-ghost use Rattle.capi.specs.Numbers.{choiceOf, numberedVersion, versionRead};
+ghost use Rattle.hand.specs.Parts.{rowNumbers, sideNumber, bitsOf, inNumbers, told};
+ghost use Rattle.hand.specs.Handed.{refusedAs, resultOf, handed};
+ghost use Rattle.hand.specs.Numbers.{choiceOf, numberedVersion, versionRead};
+
+// What every call across the boundary returns: a refusal's number and its place; 0 and 0 for an answer.
+#[repr(C)]
+pub struct Result {
+    pub refusal: usize,
+    pub place: usize,
+}
 
 // The version that has a number, or a refusal.
 pub enum Numbered {

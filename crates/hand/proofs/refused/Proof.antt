@@ -1,10 +1,10 @@
--- `capi::hand::refused` meets its contract: the number that `answer::number` gives, and the place as it is.
+-- `hand::refused` meets its contract: the number that `answer::number` gives, and the place as it is.
 use Prim.Native.Nat.{ℕ}
 use mathlib.Core.Path.{ap}
-use Rattle.capi.specs.Handed.{refusedAs}
+use Rattle.hand.specs.Handed.{refusedAs}
 use borrow.Author.Needs.{needs}
-use Rattle.capi.proofs.hand.refused.Statement.{statement}
-use Rattle.capi.proofs.hand.refused.Tie as tie
+use Rattle.hand.proofs.refused.Statement.{statement}
+use Rattle.hand.proofs.refused.Tie as tie
 
 number-requires : tie.Need-number-requires
 number-requires c κs = search needs

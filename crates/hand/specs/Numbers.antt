@@ -11,8 +11,8 @@ use Rattle.label.specs.declared.Version.the-variants.{One, Two}
 use Rattle.label.specs.declared.Versions.{Versions}
 use Rattle.label.specs.declared.Versions.the-variants as choice
 use Rattle.label_writer.specs.Write.{writeLabel}
-use Rattle.capi.specs.declared.hand.Numbered.{Numbered}
-use Rattle.capi.specs.declared.hand.Numbered.the-variants.{Is, Refused}
+use Rattle.hand.specs.declared.Numbered.{Numbered}
+use Rattle.hand.specs.declared.Numbered.the-variants.{Is, Refused}
 
 -- the choice, from whether version 2 is allowed
 abbrev pub choiceOf : Bool → Versions

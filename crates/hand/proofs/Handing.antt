@@ -5,8 +5,8 @@ use mathlib.Core.List.{List}
 use lib.ListN.{length}
 use Rattle.answer.specs.Outcome.{Outcome, answer, refuse}
 use Rattle.answer.specs.Filled.{Writes, amount, filled}
-use Rattle.capi.specs.Handed.{done, refusedAs, resultOf, handed}
-use Rattle.capi.specs.declared.Result.{Result}
+use Rattle.hand.specs.Handed.{done, refusedAs, resultOf, handed}
+use Rattle.hand.specs.declared.Result.{Result}
 
 module _ {A : Type 0} {o : Outcome A} where
   pub answered-result : {a : A} → o ≡ answer a → done ≡ resultOf o

@@ -1,10 +1,10 @@
--- `capi::hand::count` meets its contract: by what was answered.
+-- `hand::count` meets its contract: by what was answered.
 use mathlib.Core.Path.{_∙_, ap}
 use Rattle.answer.specs.Counted.{counted}
-use Rattle.capi.proofs.Handing.{answered-result, answered-part, refused-result, refused-part}
+use Rattle.hand.proofs.Handing.{answered-result, answered-part, refused-result, refused-part}
 use borrow.Author.Needs.{needs}
-use Rattle.capi.proofs.hand.count.Statement.{statement}
-use Rattle.capi.proofs.hand.count.Tie as tie
+use Rattle.hand.proofs.count.Statement.{statement}
+use Rattle.hand.proofs.count.Tie as tie
 
 enum-known-answer : tie.Need-enum-known-answer
 enum-known-answer c = search needs

@@ -1,4 +1,4 @@
--- `capi::hand::in_numbers` meets its contract: by what the field holds.
+-- `hand::in_numbers` meets its contract: by what the field holds.
 use mathlib.Core.Path.{_∙_, sym, ap}
 use Prim.Native.Nat.{ℕ}
 use mir.Syntax.{w64}
@@ -7,10 +7,10 @@ use mir.Facts.{toZ-ofZ}
 use Rattle.answer.specs.Outcome.{answer, mapped}
 use Rattle.burst_fields.specs.Fields.{valued}
 use Rattle.burst_fields.specs.declared.Value.{Value}
-use Rattle.capi.specs.Parts.{bitsOf, inNumbers, told}
+use Rattle.hand.specs.Parts.{bitsOf, inNumbers, told}
 use borrow.Author.Needs.{needs}
-use Rattle.capi.proofs.hand.in_numbers.Statement.{statement}
-use Rattle.capi.proofs.hand.in_numbers.Tie as tie
+use Rattle.hand.proofs.in_numbers.Statement.{statement}
+use Rattle.hand.proofs.in_numbers.Tie as tie
 
 enum-known-value : tie.Need-enum-known-value
 enum-known-value c = search needs

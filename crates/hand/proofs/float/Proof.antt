@@ -1,10 +1,10 @@
--- `capi::hand::float` meets its contract: by what was answered.
+-- `hand::float` meets its contract: by what was answered.
 use mathlib.Core.Path.{_∙_, ap}
 use Rattle.vax.specs.Decoded.{decoded}
-use Rattle.capi.proofs.Handing.{answered-result, answered-part, refused-result, refused-part}
+use Rattle.hand.proofs.Handing.{answered-result, answered-part, refused-result, refused-part}
 use borrow.Author.Needs.{needs}
-use Rattle.capi.proofs.hand.float.Statement.{statement}
-use Rattle.capi.proofs.hand.float.Tie as tie
+use Rattle.hand.proofs.float.Statement.{statement}
+use Rattle.hand.proofs.float.Tie as tie
 
 enum-known-answer : tie.Need-enum-known-answer
 enum-known-answer c = search needs

@@ -2,7 +2,7 @@
 -- call's own definition, an `Outcome`.
 use Prim.Native.Nat.{ℕ}
 use Rattle.answer.specs.Outcome.{Outcome, answer, refuse}
-use Rattle.capi.specs.declared.Result.{Result}
+use Rattle.hand.specs.declared.Result.{Result}
 
 -- the result of a call that answered
 abbrev pub done : Result

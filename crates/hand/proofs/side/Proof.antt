@@ -1,10 +1,10 @@
--- `capi::hand::side` meets its contract: by the verdict.
+-- `hand::side` meets its contract: by the verdict.
 use mathlib.Core.Path.{_∙_, ap}
 use Rattle.verdicts.specs.Judged.{judged}
-use Rattle.capi.proofs.Handing.{answered-result, answered-part, refused-result, refused-part}
+use Rattle.hand.proofs.Handing.{answered-result, answered-part, refused-result, refused-part}
 use borrow.Author.Needs.{needs}
-use Rattle.capi.proofs.hand.side.Statement.{statement}
-use Rattle.capi.proofs.hand.side.Tie as tie
+use Rattle.hand.proofs.side.Statement.{statement}
+use Rattle.hand.proofs.side.Tie as tie
 
 enum-told : tie.Need-enum-told
 enum-told c = search needs

@@ -1,7 +1,7 @@
--- `capi::hand::version_with` meets its contract: 1, 2, or any other number.
+-- `hand::version_with` meets its contract: 1, 2, or any other number.
 use borrow.Author.Tests.{eq-eqb, ne-eqb}
-use Rattle.capi.proofs.hand.version_with.Statement.{statement}
-use Rattle.capi.proofs.hand.version_with.Tie as tie
+use Rattle.hand.proofs.version_with.Statement.{statement}
+use Rattle.hand.proofs.version_with.Tie as tie
 
 returns : tie.Need-returns
 returns c = simp (eq-eqb (c .before .args .number) 1 (c .if1 .taken))
