@@ -117,7 +117,7 @@ fn check_listed(file: &[u8]) -> Count
     if LARGEST_LISTED < file.len() {
         return Count::Refused(Refusal::TooBig, 0);
     }
-    sfdu::check(Versions::One, file)
+    labelled::check(Versions::One, file)
 }
 
 // Puts a line at place `at` of `out` and answers where it ends.

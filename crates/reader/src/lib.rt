@@ -34,7 +34,7 @@ pub fn check(kind: Kind, file: &[u8]) -> Count
     ensures { λ r. ⌜ counted r ≡ checkFile kind (now (file .entry)) ⌝ }
 {
     match kind {
-        Kind::Labelled(versions) => sfdu::check(versions, file),
+        Kind::Labelled(versions) => labelled::check(versions, file),
         Kind::Waveform => waveform::check(file),
         Kind::Bursts(first) => bursts::check(file, first),
     }
@@ -45,7 +45,7 @@ fn find_row(kind: Kind, file: &[u8], k: usize) -> Show
     ensures { λ r. ⌜ shown r ≡ findRow kind (now (file .entry)) k ⌝ }
 {
     match kind {
-        Kind::Labelled(versions) => sfdu::find_row(versions, file, k),
+        Kind::Labelled(versions) => labelled::find_row(versions, file, k),
         Kind::Waveform => waveform::find_row(file, k),
         Kind::Bursts(first) => bursts::find_row(file, first, k),
     }

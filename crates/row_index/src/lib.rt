@@ -123,7 +123,7 @@ pub fn build_index(versions: Versions, file: &[u8], list: &mut [u32]) -> Build
     ensures leaves { λ _. ⌜ now (list .exit) ≡ filled (mapped indexOf (buildIndex versions (now (file .entry)) (length (now (list .entry)))))
         (now (list .entry)) ⌝ }
 {
-    match sfdu::check(versions, file) {
+    match labelled::check(versions, file) {
         Count::Refused(why, place) => Build::Refused(why, place),
         Count::Is(rows) => {
             let entries = groups(rows);
@@ -140,7 +140,7 @@ pub fn build_index(versions: Versions, file: &[u8], list: &mut [u32]) -> Build
 pub fn check_index(versions: Versions, file: &[u8], list: &[u32]) -> Verified
     ensures { λ r. ⌜ accepted r ≡ checkIndex versions (now (file .entry)) (now (list .entry)) ⌝ }
 {
-    match sfdu::check(versions, file) {
+    match labelled::check(versions, file) {
         Count::Refused(why, place) => Verified::Refused(why, place),
         Count::Is(rows) => {
             if list.len() != groups(rows) {

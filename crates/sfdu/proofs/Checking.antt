@@ -15,7 +15,8 @@ use Rattle.sfdu.specs.Row.{Row, whole}
 use Rattle.sfdu.specs.Scan.{scan}
 use Rattle.sfdu.specs.Check.{counting, rowsOfFile, checkLabelled}
 use Rattle.sfdu.specs.Find.{findRow}
-use Rattle.sfdu.specs.Private.{nothingSeen, seeAll, Searched, MarksInside}
+use Rattle.sfdu.specs.Search.{nothingSeen, seeAll, MarksInside}
+use Rattle.sfdu.specs.Private.{Searched}
 use Rattle.sfdu.specs.declared.Seen.{Seen}
 
 -- which versions of the label are allowed

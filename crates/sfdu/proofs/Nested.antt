@@ -14,7 +14,8 @@ use Rattle.label.specs.declared.Versions.{Versions}
 use Rattle.label.specs.declared.Label.{Label}
 use Rattle.sfdu.specs.Row.{Row}
 use Rattle.sfdu.specs.Scan.{Inside, object, rowsOf, level, objects}
-use Rattle.sfdu.specs.Private.{ObjectAt, seeRow, seeAll, Searched}
+use Rattle.sfdu.specs.Search.{seeRow, seeAll}
+use Rattle.sfdu.specs.Private.{ObjectAt, Searched}
 use Rattle.sfdu.specs.declared.Mark.{Mark}
 use Rattle.sfdu.specs.declared.Seen.{Seen}
 use Rattle.sfdu.proofs.Steps.{at-the-end, bad-object, one-object}

@@ -2,63 +2,26 @@
 use Prim.Native.Nat.{ℕ, _+_, _-_, _≤_}
 use mathlib.Core.Path.{_≡_}
 use mathlib.Core.Bool.{Bool, true, false}
-use mathlib.Core.List.{List, [], _∷_}
+use mathlib.Core.List.{List}
 use lib.ListN.{length, drop}
-use lib.Dec.{eqb}
 use Rattle.answer.specs.Outcome.{Outcome, answer, refuse, mapped}
 use Rattle.answer.specs.Refusal.{numberOf}
-use Rattle.answer.specs.Size.{largestFile}
 use Rattle.label.specs.declared.Label.{Label}
 use Rattle.label.specs.declared.Versions.{Versions}
 use Rattle.label.specs.Head.{labelSize}
 use Rattle.label.specs.Opened.{isOpened}
-use Rattle.sfdu.specs.Row.{Row}
 use Rattle.sfdu.specs.Scan.{object, objects}
+use Rattle.sfdu.specs.Search.{seeAll}
 use Rattle.sfdu.specs.declared.Object.{Object}
 use Rattle.sfdu.specs.declared.Object.the-variants.{Leaf, Group, Fault}
 use Rattle.sfdu.specs.declared.Outer.{Outer}
 use Rattle.sfdu.specs.declared.Outer.the-variants.{Itself, At}
-use Rattle.sfdu.specs.declared.Mark.{Mark}
 use Rattle.sfdu.specs.declared.Seen.{Seen}
-use Rattle.sfdu.specs.declared.Search.{Search}
-use Rattle.sfdu.specs.declared.Search.the-variants as search
 
 -- what the enum `Outer` says of an object at a place
 abbrev pub outermostBy : Outer → ℕ → ℕ
 outermostBy Itself = λ at. at
 outermostBy (At top) = λ _. top
-
--- a row as the struct `Mark`, and back
-abbrev pub markOf : Row → Mark
-markOf r = record { label = r .label; size = r .size; depth = r .depth; outermost = r .outermost }
-
-abbrev pub rowMarked : Mark → Row
-rowMarked m = record { label = m .label; size = m .size; depth = m .depth; outermost = m .outermost }
-
-abbrev pub either : Bool → Mark → Mark → Mark
-either true x y = x
-either false x y = y
-
--- what a search for row k has seen: before the first row, with one row more, and with these rows more
-abbrev pub nothingSeen : Seen
-nothingSeen = record { rows = 0; mark = record { label = 0; size = 0; depth = 0; outermost = 0 } }
-
-abbrev pub seeRow : ℕ → Seen → Row → Seen
-seeRow k s r = record { rows = s .rows + 1; mark = either (eqb (s .rows) k) (markOf r) (s .mark) }
-
-abbrev pub seeAll : ℕ → Seen → List Row → Seen
-seeAll k s [] = s
-seeAll k s (r ∷ rs) = seeAll k (seeRow k s r) rs
-
--- what the enum `Search` stands for
-abbrev pub searched : Search → Outcome Seen
-searched (search.Is seen) = answer seen
-searched (search.Fault why place) = refuse (numberOf why) place
-
--- what was seen was marked inside a file
-abbrev pub MarksInside : Outcome Seen → Type 0
-MarksInside (answer s) = s .mark .label ≤ largestFile
-MarksInside (refuse n p) = Unit
 
 -- which versions of the label are allowed
 module _ (versions : Versions) where

@@ -1,27 +1,18 @@
 // Labelled files: objects with the 20-byte label, inside one another to depth 8 (the field's name
-// for such an object is SFDU), the nested check of a file, and reading a row of it from the first
-// byte, with its address. Renders document 01, "The label", from the nesting on, and document 02, item
-// 8. The forward walk, indexes and windows are left to the crates above.
-use answer::Address;
-use answer::Count;
-use answer::Nesting;
-use answer::Part;
+// for such an object is SFDU), and the nested search of a file, which goes through all of its labels,
+// counts its rows and marks one of them. Renders document 01, "The label", from the nesting on. The
+// calls by it, the forward walk, indexes and windows are left to the crates above.
 use answer::Refusal;
-use answer::Show;
-use answer::Shown;
 use label::LabelRead;
 use label::Versions;
 ghost use mathlib.Core.Path.{_≡_};
 ghost use Prim.Native.Nat.{_+_, _-_, _≤_, _<_};
 ghost use lib.ListN.{length};
-ghost use Rattle.answer.specs.Counted.{counted};
 ghost use Rattle.answer.specs.Size.{largestFile};
-ghost use Rattle.answer.specs.Window.{shown};
 ghost use Rattle.answer.specs.Outcome.{mapped};
-ghost use Rattle.sfdu.specs.Check.{rowsOfFile, checkLabelled};
-ghost use Rattle.sfdu.specs.Row.{whole};
-ghost use Rattle.sfdu.specs.Find.{findRow};
-ghost use Rattle.sfdu.specs.Private.{Stands, outermostBy, rowMarked, nothingSeen, seeAll, searched, Searched, MarksInside};
+ghost use Rattle.sfdu.specs.Check.{rowsOfFile};
+ghost use Rattle.sfdu.specs.Search.{nothingSeen, seeAll, searched, MarksInside};
+ghost use Rattle.sfdu.specs.Private.{Stands, outermostBy, Searched};
 
 // The depths at which labels may stand.
 const DEPTHS: usize = 8;
@@ -57,21 +48,21 @@ fn object_at(versions: Versions, part: &[u8], at: usize) -> Object
 }
 
 // A row that a search has marked: its label's place, its size, its depth, its outermost object's place.
-struct Mark {
-    label: usize,
-    size: usize,
-    depth: usize,
-    outermost: usize,
+pub struct Mark {
+    pub label: usize,
+    pub size: usize,
+    pub depth: usize,
+    pub outermost: usize,
 }
 
 // What a search for row `k` has seen: how many rows, and row `k` once it is one of them.
-struct Seen {
-    rows: usize,
-    mark: Mark,
+pub struct Seen {
+    pub rows: usize,
+    pub mark: Mark,
 }
 
 // What a search has seen at its end, or the fault that it met.
-enum Search {
+pub enum Search {
     Is(Seen),
     Fault(Refusal, usize),
 }
@@ -159,7 +150,7 @@ fn search_part(
 }
 
 // Searches a whole file for row `k`: 14, then its first fault.
-fn search_file(versions: Versions, file: &[u8], k: usize) -> Search
+pub fn search_file(versions: Versions, file: &[u8], k: usize) -> Search
     ensures { λ r. ⌜ (searched r ≡ mapped (seeAll k nothingSeen) (rowsOfFile versions (now (file .entry)))) × MarksInside (searched r) ⌝ }
 {
     if answer::LARGEST_FILE < file.len() {
@@ -180,49 +171,4 @@ fn search_file(versions: Versions, file: &[u8], k: usize) -> Search
         k,
         Seen { rows: 0, mark },
     )
-}
-
-// The check of a labelled file, with labels of these versions: how many rows it has, or its first fault.
-pub fn check(versions: Versions, file: &[u8]) -> Count
-    ensures { λ r. ⌜ counted r ≡ checkLabelled versions (now (file .entry)) ⌝ }
-{
-    match search_file(versions, file, 0) {
-        Search::Is(seen) => Count::Is(seen.rows),
-        Search::Fault(why, place) => Count::Refused(why, place),
-    }
-}
-
-// The row that was marked, whole.
-fn marked_row(mark: Mark) -> Shown
-    requires { ⌜ mark .label ≤ largestFile ⌝ }
-    ensures { λ r. ⌜ r ≡ whole (rowMarked mark) ⌝ }
-{
-    let place = mark.label + label::LABEL;
-    Shown {
-        part: Part {
-            place,
-            count: mark.size,
-        },
-        address: Address {
-            label: mark.label,
-            nesting: Nesting::Known(mark.depth, mark.outermost),
-        },
-    }
-}
-
-// Row `k` of a labelled file, whole, read from the first byte in one pass, which also checks the file;
-// 6 where there is no such row.
-pub fn find_row(versions: Versions, file: &[u8], k: usize) -> Show
-    ensures { λ r. ⌜ shown r ≡ findRow versions (now (file .entry)) k ⌝ }
-{
-    match search_file(versions, file, k) {
-        Search::Is(seen) => {
-            if k < seen.rows {
-                let mark = seen.mark;
-                return Show::Is(marked_row(mark));
-            }
-            Show::Refused(Refusal::NoRow, 0)
-        }
-        Search::Fault(why, place) => Show::Refused(why, place),
-    }
 }

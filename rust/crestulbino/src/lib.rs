@@ -8,7 +8,7 @@
 //! it, and a call that writes fills the front of what it is lent and answers how much.
 //!
 //! ```
-//! use crestulbino::{build_index, jump_labelled, rows, Kind, Versions, Window};
+//! use crestulbino::{build_index, jump_labelled, read_row, rows, Kind, Nesting, Versions, Window};
 //!
 //! let file = b"CCSD1Z00000100000043NJPL1I00DEMO00000003abcNJPL1I00DEMO00000000";
 //! let kind = Kind::Labelled(Versions::One);
@@ -20,6 +20,10 @@
 //! let built = build_index(Versions::One, file, &mut list)?;
 //! let row = jump_labelled(Versions::One, file, &list[..built.entries], 0, Window::new(1, 2))?;
 //! assert_eq!((row.place, row.bytes), (41, &b"bc"[..]));
+//!
+//! let address = read_row(kind, file, 0, Window::new(1, 2))?.address;
+//! assert_eq!(address.label, 20);
+//! assert_eq!(address.nesting, Some(Nesting { depth: 2, outermost: 0 }));
 //! # Ok::<(), crestulbino::Refused>(())
 //! ```
 //!

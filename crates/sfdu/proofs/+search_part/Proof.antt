@@ -10,7 +10,8 @@ use borrow.Author.Needs.{needs}
 use borrow.Fn.Kinds.{In}
 use borrow.Fn.PlainCycle.{Measures, is, falls, and}
 use denote.Ref.{now}
-use Rattle.sfdu.specs.Private.{ObjectAt, Stands, outermostBy, searched, Searched}
+use Rattle.sfdu.specs.Search.{searched}
+use Rattle.sfdu.specs.Private.{ObjectAt, Stands, outermostBy, Searched}
 use Rattle.sfdu.proofs.Nested.{Sofar, starts, no-bytes, deepest, ends, faulty, leaf-found, leaf-passed, group-passed, group-faulty}
 use Rattle.sfdu.proofs.search_part.Reads as reads
 use Rattle.sfdu.proofs.search_part.Kinds as kinds

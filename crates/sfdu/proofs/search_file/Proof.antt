@@ -2,7 +2,7 @@
 use mathlib.Core.Path.{sym, ap}
 use denote.Ref.{now}
 use Rattle.answer.specs.Outcome.{mapped}
-use Rattle.sfdu.specs.Private.{seeAll, nothingSeen}
+use Rattle.sfdu.specs.Search.{seeAll, nothingSeen}
 use Rattle.sfdu.proofs.Checking.{too-big, whole-file}
 use borrow.Author.Needs.{needs}
 use Rattle.sfdu.proofs.search_file.Statement.{statement}

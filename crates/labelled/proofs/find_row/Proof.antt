@@ -1,14 +1,14 @@
--- `sfdu::find_row` meets its contract: the row that the search of the file has marked, or what it has met.
+-- `labelled::find_row` meets its contract: the row that the search of the file has marked, or what it has met.
 use mathlib.Core.Path.{_∙_, sym, ap, subst}
 use denote.Ref.{now}
 use Rattle.answer.specs.Outcome.{answer}
 use Rattle.sfdu.specs.Check.{rowsOfFile}
 use Rattle.sfdu.specs.Find.{findRow}
-use Rattle.sfdu.specs.Private.{searched, MarksInside}
-use Rattle.sfdu.proofs.Seeing.{finds-the-row, finds-no-row, meets-the-fault}
+use Rattle.sfdu.specs.Search.{searched, MarksInside}
+use Rattle.labelled.proofs.Seen.{finds-the-row, finds-no-row, meets-the-fault}
 use borrow.Author.Needs.{needs}
-use Rattle.sfdu.proofs.find_row.Statement.{statement}
-use Rattle.sfdu.proofs.find_row.Tie as tie
+use Rattle.labelled.proofs.find_row.Statement.{statement}
+use Rattle.labelled.proofs.find_row.Tie as tie
 
 search-file-requires : tie.Need-search-file-requires
 search-file-requires c κs = search needs

@@ -1,12 +1,12 @@
--- `sfdu::check` meets its contract: what the search of the file has counted, or met.
+-- `labelled::check` meets its contract: what the search of the file has counted, or met.
 use mathlib.Core.Path.{_∙_, sym, ap}
 use denote.Ref.{now}
 use Rattle.sfdu.specs.Check.{rowsOfFile, checkLabelled}
-use Rattle.sfdu.specs.Private.{searched}
-use Rattle.sfdu.proofs.Seeing.{counts-so-many, meets-the-fault}
+use Rattle.sfdu.specs.Search.{searched}
+use Rattle.labelled.proofs.Seen.{counts-so-many, meets-the-fault}
 use borrow.Author.Needs.{needs}
-use Rattle.sfdu.proofs.check.Statement.{statement}
-use Rattle.sfdu.proofs.check.Tie as tie
+use Rattle.labelled.proofs.check.Statement.{statement}
+use Rattle.labelled.proofs.check.Tie as tie
 
 search-file-requires : tie.Need-search-file-requires
 search-file-requires c κs = search needs
