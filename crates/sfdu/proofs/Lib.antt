@@ -7,3 +7,4 @@ pub mod Checking
 pub mod Exact
 pub mod Values
 pub mod Allowed
+pub mod Addresses

@@ -1,6 +1,8 @@
 -- A row of a labelled file and its address (document 01: "The rows of a labelled file are its leaves in file order,
 -- numbered from 0; the bytes of a row are the leaf's value").
-use Prim.Native.Nat.{ℕ, _+_}
+use Prim.Native.Nat.{ℕ, _+_, _≤_}
+use mathlib.Core.Path.{_≡_}
+use mathlib.Core.Logic.{_↔_}
 use Rattle.answer.specs.declared.Part.{Part}
 use Rattle.answer.specs.declared.Shown.{Shown}
 use Rattle.answer.specs.declared.Nesting.the-variants.{Known}
@@ -28,3 +30,12 @@ valueOf r = record { place = valueAt r; count = r .size }
 -- outermost object it lies in")
 abbrev pub whole : Row → Shown
 whole r = record { part = valueOf r; address = record { label = r .label; nesting = Known (r .depth) (r .outermost) } }
+
+-- what an address says of a row of an accepted file (document 02, item 8: "the place of the outermost object it lies in (itself at depth
+-- 1)"; document 01: "labels of any class may stand at depths 1 to 8")
+pub record WellAddressed (r : Row) : Type 0 where
+  pub shallowest : 1 ≤ r .depth
+  pub deepest : r .depth ≤ 8
+  -- the outermost object begins in front of the row's label, or at it: it is the row itself at depth 1 and at no other
+  pub around : r .outermost ≤ r .label
+  pub itself : (r .depth ≡ 1) ↔ (r .outermost ≡ r .label)

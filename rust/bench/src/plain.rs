@@ -109,25 +109,28 @@ fn check_size(file: &[u8]) -> Result<(), Fault> {
     Ok(())
 }
 
-/// Checks a labelled file and counts its rows.
-#[inline(never)]
-pub fn check(file: &[u8], version_2: bool) -> Result<usize, Fault> {
+/// Goes through a labelled file and shows each row, with its depth and its outermost object's place.
+#[inline(always)]
+fn pass(file: &[u8], version_2: bool, mut row: impl FnMut(Leaf)) -> Result<(), Fault> {
     check_size(file)?;
     let mut outer_ends = [0; DEEPEST];
     let mut depth = 0;
     let mut end = file.len();
     let mut place = 0;
-    let mut rows = 0;
+    let mut outermost = 0;
     loop {
         while place == end {
             if depth == 0 {
-                return Ok(rows);
+                return Ok(());
             }
             depth -= 1;
             end = outer_ends[depth];
         }
         if depth == DEEPEST {
             return Err((5, place));
+        }
+        if depth == 0 {
+            outermost = place;
         }
         let label = label(&file[place..end], version_2);
         let (is_group, length) = label.map_err(|number| (number, place))?;
@@ -141,10 +144,23 @@ pub fn check(file: &[u8], version_2: bool) -> Result<usize, Fault> {
             end = value + length;
             place = value;
         } else {
-            rows += 1;
+            row(Leaf {
+                label: place,
+                value,
+                length,
+                nesting: Some((depth + 1, outermost)),
+            });
             place = value + length;
         }
     }
+}
+
+/// Checks a labelled file and counts its rows.
+#[inline(never)]
+pub fn check(file: &[u8], version_2: bool) -> Result<usize, Fault> {
+    let mut rows = 0;
+    pass(file, version_2, |_| rows += 1)?;
+    Ok(rows)
 }
 
 /// A row before a window is taken of it: the places of its label and of its value, the value's length,
@@ -283,53 +299,15 @@ pub fn read_row_labelled(
     first: usize,
     count: usize,
 ) -> Shown<'_> {
-    check_size(file)?;
-    let mut outer_ends = [0; DEEPEST];
-    let mut depth = 0;
-    let mut end = file.len();
-    let mut place = 0;
-    let mut outermost = 0;
     let mut rows = 0;
     let mut wanted = None;
-    loop {
-        while place == end {
-            if depth == 0 {
-                let wanted = wanted.ok_or((6, 0))?;
-                return window(file, wanted, first, count);
-            }
-            depth -= 1;
-            end = outer_ends[depth];
+    pass(file, version_2, |leaf| {
+        if rows == row {
+            wanted = Some(leaf);
         }
-        if depth == DEEPEST {
-            return Err((5, place));
-        }
-        if depth == 0 {
-            outermost = place;
-        }
-        let label = label(&file[place..end], version_2);
-        let (is_group, length) = label.map_err(|number| (number, place))?;
-        let value = place + LABEL;
-        if length > end - value {
-            return Err((4, place));
-        }
-        if is_group {
-            outer_ends[depth] = end;
-            depth += 1;
-            end = value + length;
-            place = value;
-        } else {
-            if rows == row {
-                wanted = Some(Leaf {
-                    label: place,
-                    value,
-                    length,
-                    nesting: Some((depth + 1, outermost)),
-                });
-            }
-            rows += 1;
-            place = value + length;
-        }
-    }
+        rows += 1;
+    })?;
+    window(file, wanted.ok_or((6, 0))?, first, count)
 }
 
 /// Reads a window of a row of a labelled file by its index.
