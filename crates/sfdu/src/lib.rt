@@ -83,6 +83,21 @@ fn outermost(outer: Outer, place: usize) -> usize
     }
 }
 
+// The row of a leaf whose label stands at `place`, with `left` depths allowed from there on.
+fn marked(place: usize, size: usize, left: usize, outer: Outer) -> Mark
+    requires { ⌜ left ≤ 8 ⌝ }
+    ensures { λ r. ⌜ r ≡ record { label = place; size = size; depth = 9 - left; outermost = outermostBy outer place } ⌝ }
+{
+    let depth = DEPTHS + 1 - left;
+    let top = outermost(outer, place);
+    Mark {
+        label: place,
+        size,
+        depth,
+        outermost: top,
+    }
+}
+
 // Searches a part of a file, from place `base` on, for row `k`, with `left` more depths allowed, to the
 // part's end or to its first fault: siblings by the loop, what is inside an object by a call on its
 // value.
@@ -116,14 +131,7 @@ fn search_part(
             Object::Leaf(next) => {
                 if rows == k {
                     let size = next - at - label::LABEL;
-                    let depth = DEPTHS + 1 - left;
-                    let top = outermost(outer, place);
-                    mark = Mark {
-                        label: place,
-                        size,
-                        depth,
-                        outermost: top,
-                    };
+                    mark = marked(place, size, left, outer);
                 }
                 rows += 1;
                 at = next;

@@ -2,7 +2,7 @@
 -- are left; the invariant is `Sofar`, each arm is one law of `Nested`, and what an arm knows of its object is `leaf` or `group`.
 use Prim.Native.Nat.{ℕ, _+_, _-_, _<_}
 use native.Mathlib.Omega.{arith}
-use mathlib.Core.Path.{refl, ap, subst}
+use mathlib.Core.Path.{refl, _∙_, ap, subst}
 use mathlib.Core.Logic.{inl, inr}
 use mathlib.Core.Bool.{true, false}
 use lib.ListN.{length}
@@ -17,6 +17,7 @@ use Rattle.sfdu.proofs.search_part.Reads as reads
 use Rattle.sfdu.proofs.search_part.Kinds as kinds
 use Rattle.sfdu.proofs.+search_part.Lts-search_part as lts
 use Rattle.sfdu.proofs.object_at.Reads as object-at-reads
+use Rattle.sfdu.proofs.marked.Reads as marked-reads
 use Rattle.sfdu.proofs.outermost.Reads as outermost-reads
 use Rattle.sfdu.proofs.+search_part.{statement}
 use Rattle.sfdu.proofs.+search_part.Tie.{close}
@@ -40,7 +41,7 @@ module _ (t : ℕ) where
   Below = and 1 kinds.ps (falls 1 kinds.ps _<_ μ-call t) reads.Pre
 
   abbrev claims : lts.Claims
-  claims = (object-at-reads.Asked, object-at-reads.Learnt, outermost-reads.Asked, outermost-reads.Learnt, Below, reads.Post)
+  claims = (object-at-reads.Asked, object-at-reads.Learnt, marked-reads.Asked, marked-reads.Learnt, outermost-reads.Asked, outermost-reads.Learnt, Below, reads.Post)
 
   returns : lts.Need-returns claims Pre reads.Post Inv μ
   returns c = no-bytes (c .before .before .args .versions) (now (c .before .before .args .part)) _ _ _ _ _ (c .if1 .taken) (c .before .before .pre .1 .2) (c .before .before .pre .1 .3)
@@ -80,14 +81,8 @@ module _ (t : ℕ) where
   sub-size-2 : lts.Need-sub-size-2 claims Pre reads.Post Inv μ
   sub-size-2 c = omega (arith, leaf (c .before) .ends)
 
-  add-depth : lts.Need-add-depth claims Pre reads.Post Inv μ
-  add-depth c = search needs
-
-  sub-depth : lts.Need-sub-depth claims Pre reads.Post Inv μ
-  sub-depth c = omega (arith, c .before .before .before .before .before .before .before .before .before .before .before .pre .1 .1)
-
-  outermost-requires : lts.Need-outermost-requires claims Pre reads.Post Inv μ
-  outermost-requires c κs = search needs
+  marked-requires : lts.Need-marked-requires claims Pre reads.Post Inv μ
+  marked-requires c κs = omega (arith, c .before .before .before .before .before .before .before .before .before .before .before .pre .1 .1)
 
   add-rows : lts.Need-add-rows claims Pre reads.Post Inv μ
   add-rows c = omega (arith, c .before .before .before .before .before .before .before .before .before .before .before .pre .1 .0, c .before .before .before .before .before .before .loop .inv .few, c .before .before .before .before .before .before .loop .inv .within)
@@ -100,8 +95,8 @@ module _ (t : ℕ) where
       let w = c .before .before .before .before .before .before .loop in
       let way = c .before .before .before .before .before .loop-test .taken in
       elim (c .if3 .came) [
-        | inl (found, outermost, is) ↦ leaf-found (c .before .before .before .before .before .before .before .before .before .before .before .args .versions) (now (c .before .before .before .before .before .before .before .before .before .before .before .args .part)) _ _ _ _ _ (w .at) _ (w .inv) way _ _ _ _ (leaf (c .before)) refl
-            (outermost .ensures) (found .taken) is
+        | inl (found, marked, is) ↦ leaf-found (c .before .before .before .before .before .before .before .before .before .before .before .args .versions) (now (c .before .before .before .before .before .before .before .before .before .before .before .args .part)) _ _ _ _ _ (w .at) _ (w .inv) way _ _ _ _ (leaf (c .before)) refl
+            refl (found .taken) (is ∙ marked .ensures)
         | inr (passed, is) ↦ leaf-passed (c .before .before .before .before .before .before .before .before .before .before .before .args .versions) (now (c .before .before .before .before .before .before .before .before .before .before .before .args .part)) _ _ _ _ _ (w .at) _ (w .inv) way _ _ (leaf (c .before)) (passed .left) is
       ]
 
@@ -118,8 +113,8 @@ module _ (t : ℕ) where
   add-inside : lts.Need-add-inside claims Pre reads.Post Inv μ
   add-inside c = omega (arith, c .before .before .before .before .before .before .before .before .before .before .pre .1 .0, group c .ends, group c .inside)
 
-  outermost-requires-2 : lts.Need-outermost-requires-2 claims Pre reads.Post Inv μ
-  outermost-requires-2 c κs = search needs
+  outermost-requires : lts.Need-outermost-requires claims Pre reads.Post Inv μ
+  outermost-requires c κs = search needs
 
   sub-search-part : lts.Need-sub-search-part claims Pre reads.Post Inv μ
   sub-search-part c = omega (arith, group (c .before) .ends, group (c .before) .inside)
@@ -149,7 +144,7 @@ module _ (t : ℕ) where
   returns-4 : lts.Need-returns-4 claims Pre reads.Post Inv μ
   returns-4 c =
       let w = c .before .before .before .before .before .before .before .before .before .before .before .loop in
-      group-faulty (c .before .before .before .before .before .before .before .before .before .before .before .before .before .before .before .before .args .versions) (now (c .before .before .before .before .before .before .before .before .before .before .before .before .before .before .before .before .args .part)) _ _ _ _ _ (w .at) _ (w .inv) (c .before .before .before .before .before .before .before .before .before .before .loop-test .taken) _ _ (group (c .before .before .before .before .before .before)) (c .before .before .before .before .before .outermost2 .ensures)
+      group-faulty (c .before .before .before .before .before .before .before .before .before .before .before .before .before .before .before .before .args .versions) (now (c .before .before .before .before .before .before .before .before .before .before .before .before .before .before .before .before .args .part)) _ _ _ _ _ (w .at) _ (w .inv) (c .before .before .before .before .before .before .before .before .before .before .loop-test .taken) _ _ (group (c .before .before .before .before .before .before)) (c .before .before .before .before .before .outermost .ensures)
       (omega (arith, c .before .before .before .before .before .before .before .before .before .before .before .before .before .if2 .left)) (c .before .before .before .before .before .before .before .before .before .before .before .before .before .before .before .before .pre .1 .1) _ _
       (subst (Searched _ _ _ _ _ _ _) (ap searched (c .before .why2 .given .1)) (c .before .before .before .search-part .ensures))
 
@@ -162,7 +157,7 @@ module _ (t : ℕ) where
   loop-again-2 : lts.Need-loop-again-2 claims Pre reads.Post Inv μ
   loop-again-2 c =
       let w = c .before .before .before .before .before .before .before .before .before .before .before .before .loop in
-      group-passed (c .before .before .before .before .before .before .before .before .before .before .before .before .before .before .before .before .before .args .versions) (now (c .before .before .before .before .before .before .before .before .before .before .before .before .before .before .before .before .before .args .part)) _ _ _ _ _ (w .at) _ (w .inv) (c .before .before .before .before .before .before .before .before .before .before .before .loop-test .taken) _ _ (group (c .before .before .before .before .before .before .before)) (c .before .before .before .before .before .before .outermost2 .ensures)
+      group-passed (c .before .before .before .before .before .before .before .before .before .before .before .before .before .before .before .before .before .args .versions) (now (c .before .before .before .before .before .before .before .before .before .before .before .before .before .before .before .before .before .args .part)) _ _ _ _ _ (w .at) _ (w .inv) (c .before .before .before .before .before .before .before .before .before .before .before .loop-test .taken) _ _ (group (c .before .before .before .before .before .before .before)) (c .before .before .before .before .before .before .outermost .ensures)
       (omega (arith, c .before .before .before .before .before .before .before .before .before .before .before .before .before .before .if2 .left)) (c .before .before .before .before .before .before .before .before .before .before .before .before .before .before .before .before .before .pre .1 .1) _
       (subst (Searched _ _ _ _ _ _ _) (ap searched (c .before .before .more .given .1)) (c .before .before .before .before .search-part .ensures))
 
@@ -183,16 +178,14 @@ pub +search-part-spec : {M : Type 1} → statement M
     (enum-known-next t)
     (sub-size t)
     (sub-size-2 t)
-    (add-depth t)
-    (sub-depth t)
-    (outermost-requires t)
+    (marked-requires t)
     (add-rows t)
     (loop-less t)
     (loop-again t)
     (enum-known-end t)
     (add-body t)
     (add-inside t)
-    (outermost-requires-2 t)
+    (outermost-requires t)
     (sub-search-part t)
     (part-search-part-start t)
     (part-search-part-end t)
