@@ -12,8 +12,12 @@
 //! - outputs overlap neither one another nor an input, and nobody writes to an input: outputs are
 //!   `&mut`, inputs `&`, and all of them live until the call returns.
 //!
-//! The library keeps no pointer, reads only inputs, and writes whole numbers, bytes and floats, of
-//! which every pattern is a value.
+//! The library keeps no pointer, and writes whole numbers, bytes and floats, of which every pattern is
+//! a value. It reads only inputs, and of a row's memory the two numbers that it writes again where they
+//! are absent.
+
+use crate::refusal::other_version;
+use std::mem::MaybeUninit;
 
 /// What a call that can refuse returns: 0 and 0 for an answer, or a refusal's number and place.
 #[repr(C)]
@@ -27,7 +31,7 @@ pub(crate) struct Outcome {
 /// What is shown of a row, as the header's `crest_row`: where the nesting is absent, the last two
 /// numbers stay as they were.
 #[repr(C)]
-#[derive(Clone, Copy, Debug, Default, PartialEq, Eq)]
+#[derive(Clone, Copy, Debug, PartialEq, Eq)]
 pub(crate) struct RowNumbers {
     pub place: u64,
     pub bytes: u64,
@@ -40,6 +44,65 @@ pub(crate) struct RowNumbers {
 /// The header's `CREST_ABSENT` and `CREST_KNOWN`.
 pub(crate) const ABSENT: u64 = 0;
 pub(crate) const KNOWN: u64 = 1;
+
+/// Memory for a row's numbers. Nothing need be in it: to fill it in front of each call took as long
+/// as half a jump.
+pub(crate) type RowMemory = MaybeUninit<RowNumbers>;
+
+/// What a call that answers a row comes to.
+pub(crate) type Shown<'m> = Result<Written<'m>, Outcome>;
+
+/// Memory in which a call has answered a row.
+#[derive(Clone, Copy, Debug)]
+pub(crate) struct Written<'m>(&'m RowMemory);
+
+impl Written<'_> {
+    #[inline]
+    pub(crate) fn place(self) -> u64 {
+        // SAFETY: a call that answers writes the first four numbers.
+        unsafe { (*self.0.as_ptr()).place }
+    }
+
+    #[inline]
+    pub(crate) fn bytes(self) -> u64 {
+        // SAFETY: a call that answers writes the first four numbers.
+        unsafe { (*self.0.as_ptr()).bytes }
+    }
+
+    #[inline]
+    pub(crate) fn label(self) -> u64 {
+        // SAFETY: a call that answers writes the first four numbers.
+        unsafe { (*self.0.as_ptr()).label }
+    }
+
+    /// The depth and the outermost object's place, where they are known.
+    #[inline]
+    pub(crate) fn nesting(self) -> Option<(u64, u64)> {
+        let row = self.0.as_ptr();
+        // SAFETY: a call that answers writes the first four numbers, and the other two where the
+        // fourth says that they are known.
+        unsafe {
+            match (*row).nesting {
+                ABSENT => None,
+                KNOWN => Some(((*row).depth, (*row).outermost)),
+                _ => other_version(),
+            }
+        }
+    }
+}
+
+/// What a call came to that was lent this memory for a row.
+///
+/// # Safety
+///
+/// The call is one of the header that writes a `crest_row`, and returned this.
+#[inline]
+unsafe fn written(outcome: Outcome, memory: &RowMemory) -> Shown<'_> {
+    match outcome.refusal {
+        0 => Ok(Written(memory)),
+        _ => Err(outcome),
+    }
+}
 
 #[rustfmt::skip] // A line for a declaration, as in the header.
 unsafe extern "C" {
@@ -141,67 +204,89 @@ pub(crate) fn check_bursts(file: &[u8], start: u64, rows: &mut u64) -> Outcome {
 }
 
 #[inline]
-pub(crate) fn read_row_labelled(
+pub(crate) fn read_row_labelled<'m>(
     file: &[u8],
     version_2: bool,
     row: u64,
     first: u64,
     count: u64,
-    shown: &mut RowNumbers,
-) -> Outcome {
+    shown: &'m mut RowMemory,
+) -> Shown<'m> {
     // SAFETY: `file` is a shared slice with its length; `shown` is lent alone.
     unsafe {
-        crest_read_row_labelled(
+        let outcome = crest_read_row_labelled(
             file.as_ptr(),
             file.len(),
             version_2,
             row,
             first,
             count,
-            shown,
-        )
+            shown.as_mut_ptr(),
+        );
+        written(outcome, shown)
     }
 }
 
 #[inline]
-pub(crate) fn read_row_waveform(
+pub(crate) fn read_row_waveform<'m>(
     file: &[u8],
     row: u64,
     first: u64,
     count: u64,
-    shown: &mut RowNumbers,
-) -> Outcome {
+    shown: &'m mut RowMemory,
+) -> Shown<'m> {
     // SAFETY: `file` is a shared slice with its length; `shown` is lent alone.
-    unsafe { crest_read_row_waveform(file.as_ptr(), file.len(), row, first, count, shown) }
+    unsafe {
+        let outcome = crest_read_row_waveform(
+            file.as_ptr(),
+            file.len(),
+            row,
+            first,
+            count,
+            shown.as_mut_ptr(),
+        );
+        written(outcome, shown)
+    }
 }
 
 #[inline]
-pub(crate) fn read_row_bursts(
+pub(crate) fn read_row_bursts<'m>(
     file: &[u8],
     start: u64,
     row: u64,
     first: u64,
     count: u64,
-    shown: &mut RowNumbers,
-) -> Outcome {
+    shown: &'m mut RowMemory,
+) -> Shown<'m> {
     // SAFETY: `file` is a shared slice with its length; `shown` is lent alone.
-    unsafe { crest_read_row_bursts(file.as_ptr(), file.len(), start, row, first, count, shown) }
+    unsafe {
+        let outcome = crest_read_row_bursts(
+            file.as_ptr(),
+            file.len(),
+            start,
+            row,
+            first,
+            count,
+            shown.as_mut_ptr(),
+        );
+        written(outcome, shown)
+    }
 }
 
 #[inline]
 #[allow(clippy::too_many_arguments)] // Those of the header.
-pub(crate) fn jump_labelled(
+pub(crate) fn jump_labelled<'m>(
     file: &[u8],
     version_2: bool,
     list: &[u32],
     row: u64,
     first: u64,
     count: u64,
-    shown: &mut RowNumbers,
-) -> Outcome {
+    shown: &'m mut RowMemory,
+) -> Shown<'m> {
     // SAFETY: `file` and `list` are shared slices with their lengths; `shown` is lent alone.
     unsafe {
-        crest_jump_labelled(
+        let outcome = crest_jump_labelled(
             file.as_ptr(),
             file.len(),
             version_2,
@@ -210,62 +295,100 @@ pub(crate) fn jump_labelled(
             row,
             first,
             count,
-            shown,
-        )
+            shown.as_mut_ptr(),
+        );
+        written(outcome, shown)
     }
 }
 
 #[inline]
-pub(crate) fn jump_waveform(
+pub(crate) fn jump_waveform<'m>(
     file: &[u8],
     row: u64,
     first: u64,
     count: u64,
-    shown: &mut RowNumbers,
-) -> Outcome {
+    shown: &'m mut RowMemory,
+) -> Shown<'m> {
     // SAFETY: `file` is a shared slice with its length; `shown` is lent alone.
-    unsafe { crest_jump_waveform(file.as_ptr(), file.len(), row, first, count, shown) }
+    unsafe {
+        let outcome = crest_jump_waveform(
+            file.as_ptr(),
+            file.len(),
+            row,
+            first,
+            count,
+            shown.as_mut_ptr(),
+        );
+        written(outcome, shown)
+    }
 }
 
 #[inline]
-pub(crate) fn jump_bursts(
+pub(crate) fn jump_bursts<'m>(
     file: &[u8],
     start: u64,
     row: u64,
     first: u64,
     count: u64,
-    shown: &mut RowNumbers,
-) -> Outcome {
+    shown: &'m mut RowMemory,
+) -> Shown<'m> {
     // SAFETY: `file` is a shared slice with its length; `shown` is lent alone.
-    unsafe { crest_jump_bursts(file.as_ptr(), file.len(), start, row, first, count, shown) }
+    unsafe {
+        let outcome = crest_jump_bursts(
+            file.as_ptr(),
+            file.len(),
+            start,
+            row,
+            first,
+            count,
+            shown.as_mut_ptr(),
+        );
+        written(outcome, shown)
+    }
 }
 
 #[inline]
-pub(crate) fn row_from_labelled(
+pub(crate) fn row_from_labelled<'m>(
     file: &[u8],
     version_2: bool,
     from: u64,
-    shown: &mut RowNumbers,
-) -> Outcome {
+    shown: &'m mut RowMemory,
+) -> Shown<'m> {
     // SAFETY: `file` is a shared slice with its length; `shown` is lent alone.
-    unsafe { crest_row_from_labelled(file.as_ptr(), file.len(), version_2, from, shown) }
+    unsafe {
+        let outcome = crest_row_from_labelled(
+            file.as_ptr(),
+            file.len(),
+            version_2,
+            from,
+            shown.as_mut_ptr(),
+        );
+        written(outcome, shown)
+    }
 }
 
 #[inline]
-pub(crate) fn row_from_waveform(file: &[u8], from: u64, shown: &mut RowNumbers) -> Outcome {
+pub(crate) fn row_from_waveform<'m>(file: &[u8], from: u64, shown: &'m mut RowMemory) -> Shown<'m> {
     // SAFETY: `file` is a shared slice with its length; `shown` is lent alone.
-    unsafe { crest_row_from_waveform(file.as_ptr(), file.len(), from, shown) }
+    unsafe {
+        let outcome = crest_row_from_waveform(file.as_ptr(), file.len(), from, shown.as_mut_ptr());
+        written(outcome, shown)
+    }
 }
 
 #[inline]
-pub(crate) fn row_from_bursts(
+pub(crate) fn row_from_bursts<'m>(
     file: &[u8],
     start: u64,
     from: u64,
-    shown: &mut RowNumbers,
-) -> Outcome {
+    shown: &'m mut RowMemory,
+) -> Shown<'m> {
     // SAFETY: `file` is a shared slice with its length; `shown` is lent alone.
-    unsafe { crest_row_from_bursts(file.as_ptr(), file.len(), start, from, shown) }
+    unsafe {
+        let outcome =
+            crest_row_from_bursts(file.as_ptr(), file.len(), start, from, shown.as_mut_ptr());
+        written(outcome, shown)
+    }
 }
 
 #[inline]
@@ -412,6 +535,13 @@ pub(crate) fn beams(mask: u64, beams: &mut u64) -> u64 {
 pub(crate) fn mode(number: u64) -> u64 {
     // SAFETY: a number goes in and a number comes back; no memory is lent.
     unsafe { crest_mode(number) }
+}
+
+/// Memory that is filled, as memory for a row.
+#[cfg(test)]
+pub(crate) fn lent(memory: &mut RowNumbers) -> &mut RowMemory {
+    // SAFETY: both are alike in memory, and what a call leaves there is numbers.
+    unsafe { &mut *std::ptr::from_mut(memory).cast() }
 }
 
 #[cfg(test)]

@@ -1,6 +1,6 @@
 //! Files of all kinds: checked, read from the first byte, jumped into, gone through row by row.
 
-use crate::ffi::{self, Outcome, RowNumbers};
+use crate::ffi::{self, Outcome, RowMemory, Shown};
 use crate::label::Versions;
 use crate::refusal::{other_version, Refused};
 use std::iter::FusedIterator;
@@ -384,22 +384,18 @@ impl FusedIterator for Rows<'_> {}
 
 /// Makes a call that answers a row, and borrows the row's part of the file.
 #[inline]
-fn shown(file: &[u8], call: impl FnOnce(&mut RowNumbers) -> Outcome) -> Result<Row<'_>, Refused> {
-    let mut row = RowNumbers::default();
-    call(&mut row).result()?;
-    let nesting = match row.nesting {
-        ffi::ABSENT => None,
-        ffi::KNOWN => Some(Nesting {
-            depth: row.depth as usize,
-            outermost: row.outermost as usize,
-        }),
-        _ => other_version(),
-    };
+fn shown(file: &[u8], call: impl FnOnce(&mut RowMemory) -> Shown<'_>) -> Result<Row<'_>, Refused> {
+    let mut memory = RowMemory::uninit();
+    let row = call(&mut memory).map_err(Outcome::refused)?;
+    let nesting = row.nesting().map(|(depth, outermost)| Nesting {
+        depth: depth as usize,
+        outermost: outermost as usize,
+    });
     Ok(Row {
-        place: row.place as usize,
-        bytes: part(file, row.place, row.bytes),
+        place: row.place() as usize,
+        bytes: part(file, row.place(), row.bytes()),
         address: Address {
-            label: row.label as usize,
+            label: row.label() as usize,
             nesting,
         },
     })

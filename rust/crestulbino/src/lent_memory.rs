@@ -2,7 +2,7 @@
 //! lent with other memory on both sides. A refused call changes nothing; a call that answers
 //! changes the front of its outputs.
 
-use crate::ffi::{self, Outcome, RowNumbers, ABSENT, KNOWN};
+use crate::ffi::{self, Outcome, RowMemory, RowNumbers, ABSENT, KNOWN};
 use std::fmt::Debug;
 
 const DEMO: &[u8] = b"CCSD1Z00000100000043NJPL1I00DEMO00000003abcNJPL1I00DEMO00000000";
@@ -128,12 +128,17 @@ fn answers_number<T: Filling>(
 type Shown = (u64, u64, u64, Option<(u64, u64)>);
 
 /// A call with a row for an answer. Where its depth is absent, the numbers for it stay as they were.
-fn shows(name: &str, expected: Result<Shown, Outcome>, call: impl Fn(&mut RowNumbers) -> Outcome) {
+fn shows(
+    name: &str,
+    expected: Result<Shown, Outcome>,
+    call: impl Fn(&mut RowMemory) -> ffi::Shown<'_>,
+) {
     for salt in SALTS {
         let mut shown = Lent::new(1, salt);
         let before: RowNumbers = *shown.number();
-        let outcome = call(shown.number());
-        assert_eq!(outcome, expected.err().unwrap_or(ANSWERED), "{name}");
+        let given = call(ffi::lent(shown.number()));
+        let given = given.map(|row| (row.place(), row.bytes(), row.label(), row.nesting()));
+        assert_eq!(given, expected, "{name}");
         let answer = expected.ok().map(|(place, bytes, label, nesting)| {
             let (depth, outermost) = nesting.unwrap_or((before.depth, before.outermost));
             RowNumbers {

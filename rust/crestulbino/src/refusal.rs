@@ -198,7 +198,8 @@ impl Outcome {
         Err(self.refused())
     }
 
-    fn refused(self) -> Refused {
+    /// The refusal of a call that refused.
+    pub(crate) fn refused(self) -> Refused {
         Refused {
             refusal: Refusal::from_number(self.refusal).unwrap_or_else(|| other_version()),
             place: self.place as usize,
