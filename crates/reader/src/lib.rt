@@ -4,6 +4,7 @@
 // caller names the kind and vouches for it; the labelled kind says which versions of the label are
 // allowed, that of bursts where the first record begins. A caller that knows the kind when it is
 // written jumps by the kind's own function, which costs less.
+use answer::Address;
 use answer::Count;
 use answer::Part;
 use answer::Refusal;
@@ -61,9 +62,11 @@ fn window_in(row: Show, a: usize, c: usize) -> Show
             if answer::window_fits(found.part.count, a, c) {
                 let place = found.part.place + a;
                 let address = found.address;
+                let label = address.label;
+                let nesting = address.nesting;
                 return Show::Is(Shown {
                     part: Part { place, count: c },
-                    address,
+                    address: Address { label, nesting },
                 });
             }
             Show::Refused(Refusal::NoPart, 0)
