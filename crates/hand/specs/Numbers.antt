@@ -1,7 +1,7 @@
 -- Numbers of the boundary that stand for a choice or a version of the label (document 02, item 11: "Every call that reads labels is
 -- told whether version 2 is allowed"; "The writer is told the version, and its byte 4 must agree, else 2").
 use Prim.Native.Nat.{ℕ}
-use mathlib.Core.Bool.{Bool, true, false}
+use mathlib.Core.Bool.{Bool, true, false, cond}
 use mathlib.Core.List.{List}
 use lib.Dec.{eqb}
 use Rattle.answer.specs.Outcome.{Outcome, answer, refuse, andThen}
@@ -19,13 +19,9 @@ abbrev pub choiceOf : Bool → Versions
 choiceOf true = choice.OneAndTwo
 choiceOf false = choice.One
 
-abbrev pub either : Bool → Outcome Version → Outcome Version → Outcome Version
-either true a b = a
-either false a b = b
-
 -- the version with this number; with any other number no byte 4 agrees, which is 2
 abbrev pub numberedVersion : ℕ → Outcome Version
-numberedVersion n = either (eqb n 1) (answer One) (either (eqb n 2) (answer Two) (refuse 2 0))
+numberedVersion n = cond (eqb n 1) (answer One) (cond (eqb n 2) (answer Two) (refuse 2 0))
 
 -- the label writer, told the version by its number
 unfoldable pub writeNumbered : ℕ → List ℕ → ℕ → ℕ → Outcome (List ℕ)

@@ -2,6 +2,7 @@
 use Prim.Native.Nat.{ℕ, zero, suc, _+_, _≤_, _<_}
 use native.Mathlib.Omega.{arith}
 use mathlib.Core.Path.{_≡_, refl, _∙_, sym, ap}
+use mathlib.Core.Bool.{cond}
 use mathlib.Core.List.{List, [], _∷_}
 use lib.ListN.{length}
 use borrow.Author.Tests.{eq-eqb, ne-eqb}
@@ -10,7 +11,7 @@ use Rattle.answer.specs.Nth.{nth}
 use Rattle.answer.proofs.Outcomes.{answer-injective, answer-is-no-refusal, mapped-answer, refused-first, after-answer, after-refusal}
 use Rattle.answer.proofs.Nths.{nth-is-there, nth-is-not}
 use Rattle.sfdu.specs.Row.{Row, whole}
-use Rattle.sfdu.specs.Search.{markOf, rowMarked, either, nothingSeen, seeRow, seeAll}
+use Rattle.sfdu.specs.Search.{markOf, rowMarked, nothingSeen, seeRow, seeAll}
 use Rattle.sfdu.specs.declared.Mark.{Mark}
 use Rattle.sfdu.specs.declared.Seen.{Seen}
 
@@ -22,14 +23,14 @@ module _ (k : ℕ) where
   -- a row that was seen stays
   seen-stays : (rs : List Row) (s : Seen) → k < s .rows → seeAll k s rs .mark ≡ s .mark
   seen-stays [] s h = refl
-  seen-stays (r ∷ rs) s h = seen-stays rs (seeRow k s r) (omega arith) ∙ ap (λ t. either t (markOf r) (s .mark)) (ne-eqb (s .rows) k (λ e. absurd (omega (arith, e))))
+  seen-stays (r ∷ rs) s h = seen-stays rs (seeRow k s r) (omega arith) ∙ ap (λ t. cond t (markOf r) (s .mark)) (ne-eqb (s .rows) k (λ e. absurd (omega (arith, e))))
 
   -- row k is seen when its turn comes
   seen-row : (rs : List Row) (s : Seen) (j : ℕ) (r : Row) → k ≡ s .rows + j → nth rs j ≡ answer r → seeAll k s rs .mark ≡ markOf r
   seen-row [] s j r h e = absurd (answer-is-no-refusal (sym e))
   seen-row (x ∷ rs) s zero r h e =
       seen-stays rs (seeRow k s x) (omega arith)
-      ∙ ap (λ t. either t (markOf x) (s .mark)) (eq-eqb (s .rows) k (omega arith))
+      ∙ ap (λ t. cond t (markOf x) (s .mark)) (eq-eqb (s .rows) k (omega arith))
       ∙ ap markOf (answer-injective e)
   seen-row (x ∷ rs) s (suc j) r h e = seen-row rs (seeRow k s x) j r (omega arith) e
 

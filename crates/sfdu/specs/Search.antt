@@ -1,7 +1,7 @@
 -- What the nested search of a file for row k comes to: the rows of the scan seen one after the other, counted, and row k marked when
 -- its turn comes. What is said of it in the documents' words is said of the calls by it, `checkLabelled` and `findRow`.
 use Prim.Native.Nat.{ℕ, _+_, _≤_}
-use mathlib.Core.Bool.{Bool, true, false}
+use mathlib.Core.Bool.{cond}
 use mathlib.Core.List.{List, [], _∷_}
 use lib.Dec.{eqb}
 use Rattle.answer.specs.Outcome.{Outcome, answer, refuse}
@@ -20,16 +20,12 @@ markOf r = record { label = r .label; size = r .size; depth = r .depth; outermos
 abbrev pub rowMarked : Mark → Row
 rowMarked m = record { label = m .label; size = m .size; depth = m .depth; outermost = m .outermost }
 
-abbrev pub either : Bool → Mark → Mark → Mark
-either true x y = x
-either false x y = y
-
 -- what a search for row k has seen: before the first row, with one row more, and with these rows more
 abbrev pub nothingSeen : Seen
 nothingSeen = record { rows = 0; mark = record { label = 0; size = 0; depth = 0; outermost = 0 } }
 
 abbrev pub seeRow : ℕ → Seen → Row → Seen
-seeRow k s r = record { rows = s .rows + 1; mark = either (eqb (s .rows) k) (markOf r) (s .mark) }
+seeRow k s r = record { rows = s .rows + 1; mark = cond (eqb (s .rows) k) (markOf r) (s .mark) }
 
 abbrev pub seeAll : ℕ → Seen → List Row → Seen
 seeAll k s [] = s
