@@ -250,6 +250,19 @@ fn the_largest_waveform_files() {
     }
 }
 
+/// No waveform file has a row that this one has not, and where a row stands depends on its number
+/// alone: these are all places that a jump can come to.
+#[test]
+fn every_row_of_the_largest_waveform_file() {
+    let file = vec![0; MOST / 2_080 * 2_080];
+    for library in BOTH {
+        for (row, start) in (0..file.len()).step_by(2_080).enumerate() {
+            let jumped = (library.jump_waveform)(&file, row, Window::new(0, 2_048));
+            assert_eq!(stands(jumped), Ok((start + 32, 2_048)));
+        }
+    }
+}
+
 #[test]
 fn a_ragged_waveform_file_of_the_largest_size() {
     let file = vec![0; MOST];
