@@ -74,16 +74,16 @@ fn jump_start(file: &[u8], k: usize) -> Count
     }
 }
 
-// The place of the prefix of a row that lies in a file: the bytes of the rows in front of it, their samples and their
-// prefixes. By shifts and a sum, for machines without a 64-bit multiply (document 02, item 4): 2,048 is two to the power
-// of 11, and 32 of 5.
+// The place of the prefix of a row that lies in a file, 2,080·k by shifts and sums: 2,080 is 2,048 and 32. The prefixes
+// of 64 rows are 2,048 bytes, so in front of row `k` there are `parts` of 2,048 bytes and `left` prefixes of 32. Written
+// as `(k << 11) + (k << 5)` the compiler would join it into one multiply (docs/landings/04-shifts.md).
 fn row_start(k: usize) -> usize
     requires { ⌜ startOf 0 rowSize k ≤ 9223372036854775807 ⌝ }
     ensures { λ r. ⌜ r ≡ startOf 0 rowSize k ⌝ }
 {
-    let samples = k << 11;
-    let prefixes = k << 5;
-    samples + prefixes
+    let parts = k + (k >> 6);
+    let left = k % 64;
+    (parts << 11) + (left << 5)
 }
 
 // The samples of a row that starts at the place found.
