@@ -74,9 +74,9 @@ fn jump_start(file: &[u8], k: usize) -> Count
     }
 }
 
-// The place of the prefix of a row that lies in a file, 2,080·k by shifts and sums: 2,080 is 2,048 and 32. The prefixes
-// of 64 rows are 2,048 bytes, so in front of row `k` there are `parts` of 2,048 bytes and `left` prefixes of 32. Written
-// as `(k << 11) + (k << 5)` the compiler would join it into one multiply (docs/landings/04-shifts.md).
+// The place of the prefix of a row that lies in a file: 2,080·k by shifts and sums, as 2,080 is 2,048 and 32. The prefixes
+// of 64 rows are 2,048 bytes, as many as one row's samples, so in front of row `k` there are `parts` of 2,048 bytes and
+// `left` prefixes of 32. The compiler would join `(k << 11) + (k << 5)` into one multiply (docs/landings/04-shifts.md).
 fn row_start(k: usize) -> usize
     requires { ⌜ startOf 0 rowSize k ≤ 9223372036854775807 ⌝ }
     ensures { λ r. ⌜ r ≡ startOf 0 rowSize k ⌝ }
