@@ -28,7 +28,7 @@ ghost use Rattle.reader.specs.Read.{readRow, jumpRow, rowFrom};
 ghost use Rattle.row_index.specs.Index.{indexOf, builtOf, buildIndex, checkIndex};
 ghost use Rattle.kept.specs.Kept.{keepIndex, loadKept};
 ghost use Rattle.waveform.specs.Sample.{twiceAmplitude};
-ghost use Rattle.vax.specs.Numbers.{vaxF, vaxD};
+ghost use Rattle.vax.specs.Numbers.{vaxF, vaxD, vaxDDropped};
 ghost use Rattle.orbit.specs.Opening.{perOrbitOpening};
 ghost use Rattle.verdicts.specs.Verdict.{verdictOf};
 ghost use Rattle.burst_fields.specs.Fields.{fieldOf, fieldVerdict};
@@ -357,13 +357,22 @@ pub extern "C" fn crest_vax_f(bytes: &[u8], number: &mut f64) -> Result
     hand::float(vax::vax_f(bytes), number)
 }
 
-// The VAX D number in the first 8 bytes.
+// The VAX D number in the first 8 bytes, to the nearest float.
 #[no_mangle]
 pub extern "C" fn crest_vax_d(bytes: &[u8], number: &mut f64) -> Result
     ensures { λ r. ⌜ r ≡ resultOf (vaxD (now (bytes .entry))) ⌝ }
     ensures { λ _. ⌜ now (number .exit) ≡ handed (λ x. x) (vaxD (now (bytes .entry))) (now (number .entry)) ⌝ }
 {
     hand::float(vax::vax_d(bytes), number)
+}
+
+// The VAX D number in the first 8 bytes, its three lowest fraction bits dropped.
+#[no_mangle]
+pub extern "C" fn crest_vax_d_dropped(bytes: &[u8], number: &mut f64) -> Result
+    ensures { λ r. ⌜ r ≡ resultOf (vaxDDropped (now (bytes .entry))) ⌝ }
+    ensures { λ _. ⌜ now (number .exit) ≡ handed (λ x. x) (vaxDDropped (now (bytes .entry))) (now (number .entry)) ⌝ }
+{
+    hand::float(vax::vax_d_dropped(bytes), number)
 }
 
 // The opening of the per-orbit parameters: the orbit's number, and when its mapping starts and stops.

@@ -10,7 +10,7 @@ use lib.Ieee.{Float}
 use borrow.Author.Tests.{le-leb, lt-leb, eq-eqb, ne-eqb}
 use Rattle.answer.specs.Outcome.{answer, refuse, need}
 use Rattle.vax.specs.Fields.{signOf, negative, exponent}
-use Rattle.vax.specs.Numbers.{zeroFloat, byExponent, reading, droppedD, vaxD}
+use Rattle.vax.specs.Numbers.{zeroFloat, byExponent, reading, nearestD, vaxD}
 
 module _ (x : Float) (s : List ℕ) where
   pub reserved : signOf s ≡ 1 → exponent s ≡ 0 → byExponent x s ≡ refuse 9 0
@@ -42,4 +42,4 @@ module _ (x : Float) (s : List ℕ) where
 
 -- every refusal of a D number stands at its first byte
 pub vaxD-refused-at-0 : (s : List ℕ) (n p : ℕ) → vaxD s ≡ refuse n p → p ≡ 0
-vaxD-refused-at-0 s = refused-at-0 (droppedD s) s 8
+vaxD-refused-at-0 s = refused-at-0 (nearestD s) s 8

@@ -12,13 +12,13 @@ use lib.Ieee.{Float}
 use lib.Ieee.Exact.{HasValue, odd-sign}
 use Rattle.answer.specs.Outcome.{Outcome, answer, refuse, need}
 use Rattle.vax.specs.Fields.{negative, exponent, mantissaF, droppedMantissaD}
-use Rattle.vax.specs.Numbers.{zeroFloat, exactF, droppedD, reading, vaxF, vaxD}
+use Rattle.vax.specs.Numbers.{zeroFloat, exactF, droppedD, reading, vaxF, vaxDDropped}
 use Rattle.vax.specs.Exact.{Exactly, ExactF, ExactDroppedD}
 
-same-answer : (x y : Float) → answer x ≡ answer y → x ≡ y
+pub same-answer : (x y : Float) → answer x ≡ answer y → x ≡ y
 same-answer x y e = cc
 
-never : {X : Type 0} (n p : ℕ) (y : Float) → refuse n p ≡ answer y → X
+pub never : {X : Type 0} (n p : ℕ) (y : Float) → refuse n p ≡ answer y → X
 never n p y e = let z : _≡_ {A = ℕ} 0 1 = cc in absurd (omega arith)
 
 -- whatever float stands for the exponents from 1 on, if it has its value
@@ -40,8 +40,8 @@ reading-exact size x s mantissa l = go (leb size (length s)) (negative s) (eqb (
 pub vaxF-exact : (s : List ℕ) → ExactF s (vaxF s)
 vaxF-exact s = reading-exact 4 (exactF s) s (mantissaF s) 152 (odd-sign 24 (negative s) (mantissaF s) (exponent s) 152)
 
-pub vaxD-exact : (s : List ℕ) → ExactDroppedD s (vaxD s)
-vaxD-exact s = reading-exact 8 (droppedD s) s (droppedMantissaD s) 184 (odd-sign 56 (negative s) (droppedMantissaD s) (exponent s) 184)
+pub vaxDDropped-exact : (s : List ℕ) → ExactDroppedD s (vaxDDropped s)
+vaxDDropped-exact s = reading-exact 8 (droppedD s) s (droppedMantissaD s) 184 (odd-sign 56 (negative s) (droppedMantissaD s) (exponent s) 184)
 
 -- what equals an exact outcome is exact: both clauses of a promise
 pub as-defined : (s : List ℕ) (mantissa l : ℕ) (w : Outcome Float) → Exactly s mantissa l w → (o : Outcome Float) → o ≡ w → (o ≡ w) × Exactly s mantissa l o

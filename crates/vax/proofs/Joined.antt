@@ -7,11 +7,10 @@ use mathlib.Core.Path.{_≡_, _∙_, refl, sym, ap, subst}
 use mathlib.Core.Logic.{inl, inr}
 use mathlib.Core.Bool.{Bool, not}
 use lib.Dec.{T, leb, eqb, lit<}
-use lib.Count.{trailingZeros}
-use lib.Ieee.{binary64, odd, ofFields, ofBits, nanBits}
-use lib.Ieee.Bits.{nanBits-above}
+use lib.Ieee.{Float, binary64, odd, ofFields, ofBits, toBits, nanBits, isNan}
+use lib.Ieee.Bits.{nanBits-above, nanBits-is, toBits-ofBits}
 use borrow.Author.Tests.{le-leb, lt-leb, eq-eqb, ne-eqb, le-ltb}
-use Rattle.vax.proofs.Scaled.{odd-raised, odd-shifted}
+use Rattle.vax.proofs.Scaled.{odd-raised, odd-shifted, odd-digit}
 
 abbrev pub joinedBits : ℕ → ℕ → ℕ → ℕ
 joinedBits sign e q = sign * 2 ^ 63 + (e + 893) * 2 ^ 52 + q
@@ -36,10 +35,7 @@ no-nan b small =
 
 -- 2^53 written with one exponent less
 carried : (s : Bool) (e : ℕ) → odd 53 s (2 ^ 52) e 180 ≡ odd 53 s (2 ^ 53) e 181
-carried s e = fewer ∙ sym (odd-shifted 52 s (2 ^ 52) e 180 1 (lit< tt))
-  where
-    fewer : odd 53 s (2 ^ 52) e 180 ≡ odd 52 s (2 ^ 52) e 180
-    fewer = unfold odd trailingZeros in refl
+carried s e = odd-digit 52 s (2 ^ 52) e 180 (lit< tt) (lit< tt) ∙ sym (odd-shifted 52 s (2 ^ 52) e 180 1 (lit< tt))
 
 module _ (sign e q : ℕ) (one-bit : sign < 2) (eight-bits : e < 256) (low : 2 ^ 52 ≤ q) (high : q ≤ 2 ^ 53) where
   sign-bit : leb (2 ^ 63) (joinedBits sign e q) ≡ eqb sign 1
@@ -51,7 +47,7 @@ module _ (sign e q : ℕ) (one-bit : sign < 2) (eight-bits : e < 256) (low : 2 ^
       one : sign ≤ 1
       one = omega arith
 
-  pub reads-back : ofBits binary64 (joinedBits sign e q) ≡ odd 53 (eqb sign 1) q e 181
+  reads-back : ofBits binary64 (joinedBits sign e q) ≡ odd 53 (eqb sign 1) q e 181
   reads-back = elim (eq-or-lt-of-le high) [
     | inl p ↦
         read-fields (joinedBits sign e q) (e + 894) 0 (omega arith) (omega arith) (omega arith)
@@ -66,3 +62,13 @@ module _ (sign e q : ℕ) (one-bit : sign < 2) (eight-bits : e < 256) (low : 2 ^
         ∙ ap (λ (x : ℕ). odd 53 (eqb sign 1) x (e + 893) 1074) back
         ∙ odd-raised 53 (eqb sign 1) q e 181 893
   ]
+
+  pub read-as : (b : ℕ) → b ≡ joinedBits sign e q → ofBits binary64 b ≡ odd 53 (eqb sign 1) q e 181
+  read-as b same = ap (λ (x : ℕ). ofBits binary64 x) same ∙ reads-back
+
+  -- so it is that float's pattern
+  pub pattern : toBits binary64 (odd 53 (eqb sign 1) q e 181) ≡ joinedBits sign e q
+  pattern =
+      ap (λ (x : Float). toBits binary64 x) (sym reads-back)
+      ∙ toBits-ofBits binary64 (joinedBits sign e q) (omega arith)
+      (subst (λ (t : Bool). T (not t)) (nanBits-is binary64 (joinedBits sign e q)) (no-nan (joinedBits sign e q) (omega arith)))

@@ -1,11 +1,11 @@
 -- `odd` writes one float for q·2^e / 2^l, however the powers of two are shared out among q, e and l: a power may stand
--- in both e and l or in neither, and zeros at the end of q may stand in l instead.
-use Prim.Native.Nat.{ℕ, zero, suc, _+_, _-_, _*_, _/_, _^_, _≤_, _<_}
-use native.Mathlib.Nat.{add-zero, add-suc, add-assoc, add-right-comm, mul-one, mul-pos, mul-div-mul-right, lt-irrefl}
+-- in both e and l or in neither, zeros at the end of q may stand in l instead, and a digit more may be allowed than q has.
+use Prim.Native.Nat.{ℕ, zero, suc, _+_, _-_, _*_, _/_, _%_, _^_, _≤_, _<_}
+use native.Mathlib.Nat.{add-zero, add-suc, add-assoc, add-right-comm, mul-one, mul-pos, mul-div-mul-right, lt-irrefl, pow-suc, div-lt-iff-lt-mul}
 use native.Mathlib.Omega.{arith}
-use mathlib.Core.Path.{_≡_, _∙_, refl, sym, ap}
+use mathlib.Core.Path.{_≡_, _∙_, refl, sym, ap, subst}
 use mathlib.Core.Bool.{Bool, true, false, not, cond}
-use lib.Dec.{T, leb, leb→le, nleb→lt}
+use lib.Dec.{T, leb, leb→le, nleb→lt, lit<}
 use lib.IntN.{ℤ, pos, negsuc}
 use lib.Pow.{pow-add, pow-pos}
 use lib.Bits.{shifted-half, shifted-even}
@@ -62,3 +62,23 @@ odd-shifted d s q k l j h =
     ∙ ap (λ (x : ℕ). fin s (q / 2 ^ t) (minus x (l + j))) (sym (add-assoc k t j))
     ∙ ap (λ (e : ℤ). fin s (q / 2 ^ t) e) (minus-both (k + t) l j)
     ∙ sym (odd-above-zero d s q k l h)
+
+-- a number of d + 1 digits has at most d zeros at its end
+digit-more : (d q : ℕ) → 0 < q → q < 2 ^ suc d → trailingZeros (suc d) q ≡ trailingZeros d q
+unfolding trailingZeros
+digit-more zero q above small = ap (λ (r : ℕ). under r 0) one
+  where
+    one : q % 2 ≡ 1
+    one = omega arith
+digit-more (suc d) q above small = go (q % 2) refl (digit-more d (q / 2))
+  where
+    go : (r : ℕ) → q % 2 ≡ r → (0 < q / 2 → q / 2 < 2 ^ suc d → trailingZeros (suc d) (q / 2) ≡ trailingZeros d (q / 2))
+        → under r (trailingZeros (suc d) (q / 2)) ≡ under r (trailingZeros d (q / 2))
+    go zero e again = ap suc (again (omega arith) (div-lt-iff-lt-mul (lit< tt) .1 (subst (λ (x : ℕ). q < x) (pow-suc 2 (suc d)) small)))
+    go (suc r) e again = refl
+
+pub odd-digit : (d : ℕ) (s : Bool) (q k l : ℕ) → 0 < q → q < 2 ^ suc d → odd (suc d) s q k l ≡ odd d s q k l
+odd-digit d s q k l above small =
+    odd-above-zero (suc d) s q k l above
+    ∙ ap (λ (t : ℕ). fin s (q / 2 ^ t) (minus (k + t) l)) (digit-more d q above small)
+    ∙ sym (odd-above-zero d s q k l above)

@@ -1,16 +1,18 @@
-// VAX F and D numbers (F_floating, D_floating) as 64-bit floats: document 01, "Numbers", and source
-// document 001, appendix B. A number stands in the first bytes of what is lent, and the bytes after
+// VAX F and D numbers (F_floating, D_floating) as 64-bit floats: document 01, "Numbers", document 02,
+// item 5, and source document 001, appendix B. A number stands in the first bytes of what is lent, and the bytes after
 // it are not looked at. Which bytes of a file hold a number is left to the caller.
 use answer::Refusal;
 ghost use mathlib.Core.Path.{_≡_};
-ghost use Prim.Native.Nat.{_+_, _^_, _<_, _≤_};
+ghost use Prim.Native.Nat.{_+_, _*_, _^_, _<_, _≤_};
 ghost use lib.ListN.{length};
 ghost use lib.Dec.{eqb};
 ghost use lib.Ieee.{odd};
+ghost use lib.Ieee.Nearest.{closest};
 ghost use Rattle.vax.specs.Decoded.{decoded};
 ghost use Rattle.vax.specs.Fields.{wordAt, fractionF, fractionD};
-ghost use Rattle.vax.specs.Numbers.{byExponent, vaxF, vaxD};
+ghost use Rattle.vax.specs.Numbers.{byExponent, vaxF, vaxD, vaxDDropped};
 ghost use Rattle.vax.specs.Exact.{ExactF, ExactDroppedD};
+ghost use Rattle.vax.specs.Nearest.{NearestD};
 ghost use Rattle.vax.specs.Private.{joined};
 
 // A number's float, or a refusal with its place.
@@ -94,10 +96,33 @@ pub fn vax_f(bytes: &[u8]) -> Decode
     number(bytes, mantissa * 0x2000_0000)
 }
 
-// The D number in the first 8 bytes, its three lowest fraction bits dropped and the rest exact:
-// `exact` says what the float is over whole numbers.
+// An eighth of a mantissa, to the nearest whole number and at a tie to the even one: three is added, and
+// one more where the eighth that is cut off is odd.
+fn nearest_eighth(mantissa: u64) -> u64
+    requires { ⌜ mantissa < 2 ^ 56 ⌝ }
+    ensures { λ r. ⌜ (r ≡ closest mantissa 8) × (8 * r ≤ mantissa + 4) × (mantissa ≤ 8 * r + 4) ⌝ }
+{
+    (mantissa + 3 + mantissa / 8 % 2) / 8
+}
+
+// The D number in the first 8 bytes as the nearest 64-bit float, a tie going to the even one: `nearest`
+// says over whole numbers what that means and how far the float is from the number.
 pub fn vax_d(bytes: &[u8]) -> Decode
     ensures { λ r. ⌜ decoded r ≡ vaxD (now (bytes .entry)) ⌝ }
+    ensures nearest { λ r. ⌜ NearestD (now (bytes .entry)) (decoded r) ⌝ }
+{
+    if bytes.len() < 8 {
+        return Decode::Refused(Refusal::Short, 0);
+    }
+    let digits = 0x0080_0000_0000_0000 + fraction_d(bytes);
+    // 56 of them brought to 53, or to 2^53
+    number(bytes, nearest_eighth(digits))
+}
+
+// The D number in the first 8 bytes, its three lowest fraction bits dropped and the rest exact, for old
+// jobs: `exact` says what the float is over whole numbers.
+pub fn vax_d_dropped(bytes: &[u8]) -> Decode
+    ensures { λ r. ⌜ decoded r ≡ vaxDDropped (now (bytes .entry)) ⌝ }
     ensures exact { λ r. ⌜ ExactDroppedD (now (bytes .entry)) (decoded r) ⌝ }
 {
     if bytes.len() < 8 {

@@ -1,4 +1,4 @@
--- `orbit::per_orbit_opening` meets its contract: what `vax_d` answered of each part, in the definition's terms, picks the case.
+-- `orbit::per_orbit_opening` meets its contract: what each time's call answered, in the definition's terms, picks the case.
 use mathlib.Core.Path.{_∙_, sym, ap}
 use denote.Ref.{now}
 use borrow.Author.Needs.{needs}
@@ -10,17 +10,8 @@ use Rattle.orbit.proofs.per_orbit_opening.Tie as tie
 returns : tie.Need-returns
 returns c = too-short (now (c .before .before .args .bytes)) (c .if1 .taken)
 
-sub-vax-d : tie.Need-sub-vax-d
-sub-vax-d c = search needs
-
-part-vax-d-start : tie.Need-part-vax-d-start
-part-vax-d-start c = search needs
-
-part-vax-d-end : tie.Need-part-vax-d-end
-part-vax-d-end c = search needs
-
-vax-d-requires : tie.Need-vax-d-requires
-vax-d-requires c κs = search needs
+start-time-requires : tie.Need-start-time-requires
+start-time-requires c κs = search needs
 
 enum-known-first : tie.Need-enum-known-first
 enum-known-first c = search needs
@@ -28,17 +19,8 @@ enum-known-first c = search needs
 enum-known-first-2 : tie.Need-enum-known-first-2
 enum-known-first-2 c = search needs
 
-sub-vax-d-2 : tie.Need-sub-vax-d-2
-sub-vax-d-2 c = search needs
-
-part-vax-d-start-2 : tie.Need-part-vax-d-start-2
-part-vax-d-start-2 c = search needs
-
-part-vax-d-end-2 : tie.Need-part-vax-d-end-2
-part-vax-d-end-2 c = search needs
-
-vax-d-requires-2 : tie.Need-vax-d-requires-2
-vax-d-requires-2 c κs = search needs
+stop-time-requires : tie.Need-stop-time-requires
+stop-time-requires c κs = search needs
 
 enum-known-second : tie.Need-enum-known-second
 enum-known-second c = search needs
@@ -52,30 +34,30 @@ orbit-number-requires c κs = search needs
 returns-2 : tie.Need-returns-2
 returns-2 c =
     let start = c .before .before .before in
-    let long = start .before .before in
+    let long = start .before in
     start-refused (now (long .before .before .args .bytes)) (long .if1 .left) _ _
-    (sym (start .vax-d .ensures .0) ∙ ap decoded (c .before .first .given .1))
+    (sym (start .start-time .ensures) ∙ ap decoded (c .before .first .given .1))
 
 returns-3 : tie.Need-returns-3
 returns-3 c =
     let stop = c .before .before .before in
-    let started = stop .before .before .before in
+    let started = stop .before .before in
     let start = started .before .before in
-    let long = start .before .before in
+    let long = start .before in
     stop-refused (now (long .before .before .args .bytes)) (long .if1 .left) _ _ _
-    (sym (start .vax-d .ensures .0) ∙ ap decoded (started .first2 .given .1))
-    (sym (stop .vax-d2 .ensures .0) ∙ ap decoded (c .before .second .given .1))
+    (sym (start .start-time .ensures) ∙ ap decoded (started .first2 .given .1))
+    (sym (stop .stop-time .ensures) ∙ ap decoded (c .before .second .given .1))
 
 returns-4 : tie.Need-returns-4
 returns-4 c =
     let stopped = c .before .before in
     let stop = stopped .before .before in
-    let started = stop .before .before .before in
+    let started = stop .before .before in
     let start = started .before .before in
-    let long = start .before .before in
+    let long = start .before in
     both-read (now (long .before .before .args .bytes)) (long .if1 .left) _ _ (c .orbit-number .result)
-    (sym (start .vax-d .ensures .0) ∙ ap decoded (started .first2 .given .1))
-    (sym (stop .vax-d2 .ensures .0) ∙ ap decoded (stopped .second2 .given .1))
+    (sym (start .start-time .ensures) ∙ ap decoded (started .first2 .given .1))
+    (sym (stop .stop-time .ensures) ∙ ap decoded (stopped .second2 .given .1))
     (c .orbit-number .ensures)
 
 pub per-orbit-opening-spec : {M : Type 1} → statement M
@@ -83,16 +65,10 @@ per-orbit-opening-spec =
     tie.close
     (tie.spec
     returns
-    sub-vax-d
-    part-vax-d-start
-    part-vax-d-end
-    vax-d-requires
+    start-time-requires
     enum-known-first
     enum-known-first-2
-    sub-vax-d-2
-    part-vax-d-start-2
-    part-vax-d-end-2
-    vax-d-requires-2
+    stop-time-requires
     enum-known-second
     enum-known-second-2
     orbit-number-requires

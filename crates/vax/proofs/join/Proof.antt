@@ -1,7 +1,7 @@
 -- `vax::join` meets its contract: the pattern is no NaN's, and it is read as the float.
 use native.Mathlib.Omega.{arith}
 use borrow.Author.Needs.{needs}
-use Rattle.vax.proofs.Joined.{no-nan, reads-back}
+use Rattle.vax.proofs.Joined.{no-nan, read-as}
 use Rattle.vax.proofs.join.Statement.{statement}
 use Rattle.vax.proofs.join.Tie as tie
 
@@ -24,7 +24,8 @@ float-from-bits-result : tie.Need-float-from-bits-result
 float-from-bits-result c = no-nan _ (omega arith)
 
 returns : tie.Need-returns
-returns c = reads-back (c .args .sign) (c .args .e) (c .args .q) (c .pre .0) (c .pre .1) (c .pre .2) (c .pre .3)
+returns c =
+    read-as (c .args .sign) (c .args .e) (c .args .q) (c .pre .0) (c .pre .1) (c .pre .2) (c .pre .3) _ (omega arith)
 
 pub join-spec : {M : Type 1} → statement M
 join-spec =

@@ -1,45 +1,52 @@
--- `vax::vax_d` meets its contract: `number` answers for the mantissa of 53 digits, which is the definition's float.
+-- `vax::vax_d` meets its contract: `number` answers for the nearest eighth of the mantissa, which is the definition's float.
 use Prim.Native.Nat.{ℕ}
-use mathlib.Core.Path.{_≡_, _∙_, sym}
-use mathlib.Core.List.{List}
-use lib.Ieee.{Float}
+use mathlib.Core.Path.{_∙_, sym, ap}
 use denote.Ref.{now}
 use borrow.Author.Needs.{needs}
-use Rattle.answer.specs.Outcome.{Outcome, refuse}
 use Rattle.vax.specs.Decoded.{decoded}
-use Rattle.vax.specs.Fields.{droppedMantissaD}
-use Rattle.vax.specs.Numbers.{droppedD, vaxD}
-use Rattle.vax.specs.Exact.{ExactDroppedD}
+use Rattle.vax.specs.Numbers.{byExponent, nearestD}
+use Rattle.vax.specs.Private.{joined}
 use Rattle.vax.proofs.Cases.{too-short}
 use Rattle.vax.proofs.Mantissas.{from-D}
-use Rattle.vax.proofs.Exact.{vaxD-exact, as-defined}
+use Rattle.vax.proofs.Exact.{never}
+use Rattle.vax.proofs.Nearest.{as-nearest}
 use Rattle.vax.proofs.vax_d.Statement.{statement}
 use Rattle.vax.proofs.vax_d.Tie as tie
-
--- both clauses, from the first
-meets : (s : List ℕ) (o : Outcome Float) → o ≡ vaxD s → (o ≡ vaxD s) × ExactDroppedD s o
-meets s = as-defined s (droppedMantissaD s) 184 (vaxD s) (vaxD-exact s)
 
 returns : tie.Need-returns
 returns c =
     let s = now (c .before .before .args .bytes) in
-    meets s (refuse 1 0) (sym (too-short (droppedD s) s 8 (c .if1 .taken)))
+    (sym (too-short (nearestD s) s 8 (c .if1 .taken)), λ x e. never 1 0 x e)
 
 fraction-d-requires : tie.Need-fraction-d-requires
 fraction-d-requires c κs = search needs
 
-add-mantissa : tie.Need-add-mantissa
-add-mantissa c = search needs
+add-digits : tie.Need-add-digits
+add-digits c = search needs
+
+nearest-eighth-requires : tie.Need-nearest-eighth-requires
+nearest-eighth-requires c κs = search needs
 
 number-requires : tie.Need-number-requires
 number-requires c κs = search needs
 
 returns-2 : tie.Need-returns-2
 returns-2 c =
-    let s = now (c .before .before .before .before .args .bytes) in
-    let fraction = c .before .fraction-d in
-    meets s (decoded (c .number .result)) (c .number .ensures ∙ from-D s (fraction .result) (fraction .ensures .0) (c .before .before .if1 .left))
+    let long = c .before .before .before in
+    let fraction = c .before .before .fraction-d in
+    let s = now (long .before .before .args .bytes) in
+    as-nearest s (fraction .result) (fraction .ensures .0) (fraction .ensures .1) (decoded (c .number .result))
+    (c .number .ensures
+    ∙ ap (λ (q : ℕ). byExponent (joined q s) s) (c .before .nearest-eighth .ensures .0)
+    ∙ from-D s (fraction .result) (fraction .ensures .0) (fraction .ensures .1) (long .if1 .left))
 
 pub vax-d-spec : {M : Type 1} → statement M
 vax-d-spec =
-    tie.close (tie.spec returns fraction-d-requires add-mantissa number-requires returns-2)
+    tie.close
+    (tie.spec
+    returns
+    fraction-d-requires
+    add-digits
+    nearest-eighth-requires
+    number-requires
+    returns-2)

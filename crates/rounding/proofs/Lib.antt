@@ -1,0 +1,4 @@
+pub mod Multiples
+pub mod Floats
+pub mod Patterns
+pub mod Law

@@ -1,0 +1,82 @@
+-- `closest n u`, n / u rounded to a whole number, gives the nearest multiple of u: no other multiple is nearer to n, and where another is
+-- as near, the number is even.
+use Prim.Native.Nat.{ℕ, suc, _+_, _-_, _*_, _/_, _%_, _≤_, _<_, compare, Ordering, Ordering·lt, Ordering·eq, Ordering·gt}
+use native.Mathlib.Nat.{eq-zero-or-pos, mul-le-mul-right, suc-mul, mod-lt, div-add-mod', eq-of-mul-eq-mul-right}
+use native.Mathlib.Omega.{arith}
+use mathlib.Core.Path.{_≡_, _∙_, ap, subst}
+use mathlib.Core.Bool.{Bool, true, false, not}
+use mathlib.Core.Logic.{_⊎_, inl, inr}
+use lib.Dec.{T, leb, isLe, isEq, leb→le, nleb→lt, eqb→eq, eqb, eqb-refl}
+use lib.Arith.{lt-of-le-ne}
+use lib.Ieee.{nearest}
+use lib.Ieee.Nearest.{closest}
+use Rattle.rounding.specs.Nearest.{apart}
+
+-- what `compare` says
+abbrev pub Says : Ordering → ℕ → ℕ → Type 0
+Says Ordering·lt a b = a < b
+Says Ordering·eq a b = a ≡ b
+Says Ordering·gt a b = b < a
+
+pub says : (a b : ℕ) → Says (compare a b) a b
+says a b = go (compare a b) (leb→le a b) (nleb→lt a b) (eqb→eq a b) (λ (e : a ≡ b). subst (λ (x : ℕ). T (eqb a x)) e (eqb-refl a))
+  where
+    go : (o : Ordering) → (T (isLe o) → a ≤ b) → (T (not (isLe o)) → b < a) → (T (isEq o) → a ≡ b) → (a ≡ b → T (isEq o)) → Says o a b
+    go Ordering·lt h k e n = lt-of-le-ne (h tt) n
+    go Ordering·eq h k e n = e tt
+    go Ordering·gt h k e n = k tt
+
+-- a multiple r·u is q·u at most, or (q + 1)·u at least
+beside : (u q r : ℕ) → (r * u ≤ q * u) ⊎ (q * u + u ≤ r * u)
+beside u q r = go (leb r q) (leb→le r q) (nleb→lt r q)
+  where
+    go : (b : Bool) → (T b → r ≤ q) → (T (not b) → q < r) → (r * u ≤ q * u) ⊎ (q * u + u ≤ r * u)
+    go true h k = inl (mul-le-mul-right u (h tt))
+    go false h k = inr (subst (λ (x : ℕ). x ≤ r * u) (suc-mul q u) (mul-le-mul-right u (k tt)))
+
+-- of n = q·u + rest the nearest multiple is d away, and another as near is that multiple or q' is even
+abbrev Least : ℕ → ℕ → ℕ → ℕ → Type 0
+Least n u r q = (apart (q * u) n ≤ apart (r * u) n) × (apart (q * u) n ≡ apart (r * u) n → (r ≡ q) ⊎ (q % 2 ≡ 0))
+
+module _ (n u r q rest : ℕ) (above : 0 < u) (cut : q * u + rest ≡ n) (small : rest < u) where
+  down : rest * 2 < u → Least n u r q
+  down h = elim (beside u q r) [
+    | inl b ↦ (omega arith, λ (e : apart (q * u) n ≡ apart (r * u) n). inl (eq-of-mul-eq-mul-right u above r q (omega arith)))
+    | inr b ↦ (omega arith, λ (e : apart (q * u) n ≡ apart (r * u) n). absurd (omega arith))
+  ]
+
+  up : u < rest * 2 → Least n u r (suc q)
+  up h =
+      let next : suc q * u ≡ q * u + u = suc-mul q u in
+      elim (beside u q r) [
+        | inl b ↦ (omega arith, λ (e : apart (suc q * u) n ≡ apart (r * u) n). absurd (omega arith))
+        | inr b ↦ (omega arith, λ (e : apart (suc q * u) n ≡ apart (r * u) n). inl (eq-of-mul-eq-mul-right u above r (suc q) (omega arith)))
+      ]
+
+  -- a tie: both neighbours of n are as near
+  level : (p : ℕ) → rest * 2 ≡ u → p % 2 ≡ 0 → (p * u ≡ q * u) ⊎ (p * u ≡ q * u + u) → Least n u r p
+  level p h even w = (elim w [ inl a ↦ near-below a | inr a ↦ near-above a ], λ (e : apart (p * u) n ≡ apart (r * u) n). inr even)
+    where
+      near-below : p * u ≡ q * u → apart (p * u) n ≤ apart (r * u) n
+      near-below a = elim (beside u q r) [ inl b ↦ omega arith | inr b ↦ omega arith ]
+
+      near-above : p * u ≡ q * u + u → apart (p * u) n ≤ apart (r * u) n
+      near-above a = elim (beside u q r) [ inl b ↦ omega arith | inr b ↦ omega arith ]
+
+  tie : rest * 2 ≡ u → Least n u r (q + q % 2)
+  tie h = elim (eq-zero-or-pos (q % 2)) [
+    | inl z ↦
+        let same : q + q % 2 ≡ q = omega arith in
+        level (q + q % 2) h (omega arith) (inl (ap (λ (p : ℕ). p * u) same))
+    | inr o ↦
+        let next : q + q % 2 ≡ suc q = omega arith in
+        level (q + q % 2) h (omega arith) (inr (ap (λ (p : ℕ). p * u) next ∙ suc-mul q u))
+  ]
+
+pub closest-is-least : (n u r : ℕ) → 0 < u → Least n u r (closest n u)
+closest-is-least n u r above = go (compare (n % u * 2) u) (says (n % u * 2) u)
+  where
+    go : (o : Ordering) → Says o (n % u * 2) u → Least n u r (nearest (n / u) o)
+    go Ordering·lt h = down n u r (n / u) (n % u) above (div-add-mod' n u) (mod-lt n above) h
+    go Ordering·eq h = tie n u r (n / u) (n % u) above (div-add-mod' n u) (mod-lt n above) h
+    go Ordering·gt h = up n u r (n / u) (n % u) above (div-add-mod' n u) (mod-lt n above) h

@@ -1,0 +1,30 @@
+-- Document 02, item 5: "the nearest 64-bit float, a tie going to the even one". What "nearest" means, of any number ±a / c
+-- and over whole numbers, with no division. A finite float is ±num / den in size, by `num` and `den`; `fits f y` says that y is a float
+-- of the format f, and `toBits f y` is its pattern of bits, the mantissa's last digit being the last bit.
+use Prim.Native.Nat.{ℕ, _+_, _-_, _*_, _%_, _≤_}
+use mathlib.Core.Path.{_≡_}
+use mathlib.Core.Bool.{Bool, Bool·beq, cond}
+use mathlib.Core.Logic.{_⊎_}
+use lib.Dec.{T}
+use lib.Ieee.{Float, nan, inf, fin, Format, fits, toBits, up, down}
+use lib.Ieee.Scale.{finite}
+use lib.Ieee.Positive.{den}
+
+-- how far two whole numbers are apart
+abbrev pub apart : ℕ → ℕ → ℕ
+apart a b = (a - b) + (b - a)
+
+-- how far a finite float is from ±a / c, times c and times the float's own `den`: what the two are apart where the signs are alike, and
+-- their sum where they are not; the sign true is a negative number's
+abbrev pub off : Float → Bool → ℕ → ℕ → ℕ
+off nan s a c = 0
+off (inf t) s a c = 0
+off (fin t m e) s a c = cond (Bool·beq t s) (apart (m * up e * c) (a * down e)) (m * up e * c + a * down e)
+
+-- x is the finite float of the format f that is nearest to ±a / c: no other is nearer, and where another is as near, x is the
+-- one that ends in 0
+pub record IsNearest (f : Format) (x : Float) (s : Bool) (a c : ℕ) : Type 0 where
+  pub is-finite : T (finite x)
+  pub is-float : T (fits f x)
+  pub none-nearer : (y : Float) → T (finite y) → T (fits f y) → off x s a c * den y ≤ off y s a c * den x
+  pub tie-to-even : (y : Float) → T (finite y) → T (fits f y) → off x s a c * den y ≡ off y s a c * den x → (y ≡ x) ⊎ (toBits f x % 2 ≡ 0)

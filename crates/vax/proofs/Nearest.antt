@@ -1,0 +1,154 @@
+-- The D number's float over whole numbers: it is the nearest float, it is at most 4 last places off, a carry included, and the dropped
+-- form's float is the same or one step nearer to zero.
+use Prim.Native.Nat.{ℕ, suc, _+_, _-_, _*_, _/_, _%_, _^_, _≤_, _<_, compare, Ordering, Ordering·lt, Ordering·eq, Ordering·gt}
+use native.Mathlib.Nat.{eq-zero-or-pos, zero-mul}
+use native.Mathlib.Omega.{arith}
+use mathlib.Core.Path.{_≡_, _∙_, refl, sym, ap, subst}
+use mathlib.Core.Bool.{Bool, true, false, not, _&&_, cond}
+use mathlib.Core.Logic.{_⊎_, inl, inr}
+use mathlib.Core.List.{List}
+use lib.ListN.{length, getD}
+use lib.Dec.{T, leb, eqb}
+use lib.Pow.{pow-pos}
+use lib.Ieee.{Float, nan, inf, fin, binary64, nearest, odd, round, toBits}
+use lib.Ieee.Exact.{HasValue, odd-sign}
+use lib.Ieee.Nearest.{closest}
+use lib.Ieee.Scale.{finite}
+use Rattle.answer.specs.Outcome.{Outcome, answer, refuse, need}
+use Rattle.rounding.specs.Nearest.{apart, IsNearest}
+use Rattle.rounding.proofs.Law.{round-is-nearest}
+use Rattle.vax.specs.Fields.{wordAt, signOf, negative, exponent, fractionD, mantissaD}
+use Rattle.vax.specs.Numbers.{zeroFloat, nearestD, droppedD, reading, vaxD, vaxDDropped}
+use Rattle.vax.specs.Nearest.{ToNearest, NearestD, OneStep, OneStepD}
+use Rattle.vax.proofs.Scaled.{odd-shifted}
+use Rattle.vax.proofs.Joined.{joinedBits, pattern}
+use Rattle.vax.proofs.Rounded.{eighth-is, rounded}
+use Rattle.vax.proofs.Mantissas.{to-nearest, three-fewer}
+use Rattle.vax.proofs.Exact.{same-answer, never}
+
+-- ---- one number
+finite-value : (x : Float) (s : Bool) (a c : ℕ) → HasValue x s a c → T (finite x)
+finite-value nan s a c v = absurd v
+finite-value (inf t) s a c v = absurd v
+finite-value (fin t m e) s a c v = tt
+
+-- the last of the mantissas become the next power of two
+carries : (m : ℕ) → m < 2 ^ 56 → 2 ^ 56 ≤ m + 4 → closest m 8 * 8 ≡ 2 ^ 56
+carries m high h =
+    let cut : m / 8 ≡ 2 ^ 53 - 1 = omega arith in
+    let ends-in-1 : m / 8 % 2 ≡ 1 = ap (λ (x : ℕ). x % 2) cut in
+    omega (arith, eighth-is m)
+
+of-mantissa : (s : Bool) (m e : ℕ) → 2 ^ 55 ≤ m → m < 2 ^ 56 → e < 256 → ToNearest (round binary64 s (m * 2 ^ e) (2 ^ 184)) s m e
+of-mantissa s m e low high small =
+    let x = round binary64 s (m * 2 ^ e) (2 ^ 184) in
+    let q = closest m 8 in
+    let eighth = eighth-is m in
+    let is : odd 56 s (q * 8) e 184 ≡ x = odd-shifted 53 s q e 181 3 (omega arith) ∙ sym (rounded s m e low high small) in
+    let v : HasValue x s (q * 8 * 2 ^ e) (2 ^ 184) = subst (λ (y : Float). HasValue y s (q * 8 * 2 ^ e) (2 ^ 184)) is (odd-sign 56 s (q * 8) e 184) in
+    record {
+      nearest = round-is-nearest binary64 s (m * 2 ^ e) (2 ^ 184) (pow-pos 184) (finite-value x s (q * 8 * 2 ^ e) (2 ^ 184) v);
+      places = q * 8;
+      value = v;
+      error = omega arith;
+      carry = carries m high;
+    }
+
+zero-rounded : round binary64 false 0 (2 ^ 184) ≡ zeroFloat
+zero-rounded = unfold round in refl
+
+of-zero : (e : ℕ) → ToNearest zeroFloat false 0 e
+of-zero e =
+    let none : 0 ≡ 0 * 2 ^ e = sym (zero-mul (2 ^ e)) in
+    record {
+      nearest =
+          subst (λ (a : ℕ). IsNearest binary64 zeroFloat false a (2 ^ 184)) none
+          (subst (λ (x : Float). IsNearest binary64 x false 0 (2 ^ 184)) zero-rounded
+          (round-is-nearest binary64 false 0 (2 ^ 184) (pow-pos 184) (subst (λ (x : Float). T (finite x)) (sym zero-rounded) tt)));
+      places = 0;
+      value = (refl, zero-mul (2 ^ 184) ∙ ap (λ (n : ℕ). n * 1) none);
+      error = omega arith;
+      carry = λ (h : 2 ^ 56 ≤ 0 + 4). absurd (omega arith);
+    }
+
+-- ---- all that a call may find
+pub vaxD-nearest : (s : List ℕ) → fractionD s < 2 ^ 55 → NearestD s (vaxD s)
+vaxD-nearest s small =
+    go (leb 8 (length s)) (negative s) (eqb (exponent s) 0) (of-mantissa (negative s) (mantissaD s) (exponent s) (omega arith) (omega arith) (omega arith))
+  where
+    go : (long sign zero : Bool) → ToNearest (nearestD s) sign (mantissaD s) (exponent s) → (y : Float)
+        → need long 1 (need (not (sign && zero)) 9 (answer (cond zero zeroFloat (nearestD s)))) ≡ answer y
+        → ToNearest y sign (cond zero 0 (mantissaD s)) (exponent s)
+    go false sign zero v y e = never 1 0 y e
+    go true true true v y e = never 9 0 y e
+    go true true false v y e = subst (λ (z : Float). ToNearest z true (mantissaD s) (exponent s)) (same-answer (nearestD s) y e) v
+    go true false true v y e = subst (λ (z : Float). ToNearest z false 0 (exponent s)) (same-answer zeroFloat y e) (of-zero (exponent s))
+    go true false false v y e = subst (λ (z : Float). ToNearest z false (mantissaD s) (exponent s)) (same-answer (nearestD s) y e) v
+
+-- what equals the definition's outcome is the nearest: both clauses of the promise
+pub as-nearest : (s : List ℕ) (f : ℕ) → f ≡ fractionD s → f < 2 ^ 55 → (o : Outcome Float) → o ≡ vaxD s → (o ≡ vaxD s) × NearestD s o
+as-nearest s f e small o is =
+    (is, subst (λ (u : Outcome Float). NearestD s u) (sym is) (vaxD-nearest s (subst (λ (x : ℕ). x < 2 ^ 55) e small)))
+
+-- ---- the two forms
+module _ (s : List ℕ) (bytes : (i : ℕ) → getD s i 0 < 256) where
+  one-bit : signOf s < 2
+  one-bit = let a = bytes 0 in let b = bytes 1 in omega arith
+
+  small : fractionD s < 2 ^ 55
+  small =
+      let a = bytes 0 in
+      let b = bytes 1 in
+      let c = bytes 2 in
+      let d = bytes 3 in
+      let e = bytes 4 in
+      let f = bytes 5 in
+      let g = bytes 6 in
+      let h = bytes 7 in
+      omega arith
+
+  abbrev m : ℕ
+  m = mantissaD s
+
+  abbrev bits : ℕ → ℕ
+  bits q = joinedBits (signOf s) (exponent s) q
+
+  nearest-bits : toBits binary64 (nearestD s) ≡ bits (closest m 8)
+  nearest-bits =
+      let eighth = eighth-is m in
+      ap (λ (x : Float). toBits binary64 x) (sym (to-nearest s small))
+      ∙ pattern (signOf s) (exponent s) (closest m 8) one-bit (omega arith) (omega (arith, small)) (omega (arith, small))
+
+  dropped-bits : toBits binary64 (droppedD s) ≡ bits (m / 8)
+  dropped-bits =
+      ap (λ (x : Float). toBits binary64 x) (sym (three-fewer s))
+      ∙ pattern (signOf s) (exponent s) (m / 8) one-bit (omega arith) (omega (arith, small)) (omega (arith, small))
+
+  one-more : (q d : ℕ) → (q ≡ d) ⊎ (q ≡ suc d) → (bits q ≡ bits d) ⊎ (bits q ≡ suc (bits d))
+  one-more q d c = elim c [ inl e ↦ inl (ap bits e) | inr e ↦ inr (omega arith) ]
+
+  eighths : (closest m 8 ≡ m / 8) ⊎ (closest m 8 ≡ suc (m / 8))
+  eighths = go (compare (m % 8 * 2) 8)
+    where
+      go : (o : Ordering) → (nearest (m / 8) o ≡ m / 8) ⊎ (nearest (m / 8) o ≡ suc (m / 8))
+      go Ordering·lt = inl refl
+      go Ordering·gt = inr refl
+      go Ordering·eq = elim (eq-zero-or-pos (m / 8 % 2)) [ inl z ↦ inl (omega arith) | inr o ↦ inr (omega arith) ]
+
+  step : OneStep (answer (droppedD s)) (answer (nearestD s))
+  step = elim (one-more (closest m 8) (m / 8) eighths) [
+    | inl e ↦ inl (nearest-bits ∙ e ∙ sym dropped-bits)
+    | inr e ↦ inr (nearest-bits ∙ e ∙ ap suc (sym dropped-bits))
+  ]
+
+pub one-step : (s : List ℕ) → OneStepD s
+one-step s bytes = go (leb 8 (length s)) (negative s) (eqb (exponent s) 0)
+  where
+    go : (long sign zero : Bool)
+        → OneStep (need long 1 (need (not (sign && zero)) 9 (answer (cond zero zeroFloat (droppedD s)))))
+        (need long 1 (need (not (sign && zero)) 9 (answer (cond zero zeroFloat (nearestD s)))))
+    go false sign zero = (refl, refl)
+    go true true true = (refl, refl)
+    go true true false = step s bytes
+    go true false true = inl refl
+    go true false false = step s bytes

@@ -1,0 +1,45 @@
+-- `vax::vax_d_dropped` meets its contract: `number` answers for the mantissa of 53 digits, which is the definition's float.
+use Prim.Native.Nat.{ℕ}
+use mathlib.Core.Path.{_≡_, _∙_, sym}
+use mathlib.Core.List.{List}
+use lib.Ieee.{Float}
+use denote.Ref.{now}
+use borrow.Author.Needs.{needs}
+use Rattle.answer.specs.Outcome.{Outcome, refuse}
+use Rattle.vax.specs.Decoded.{decoded}
+use Rattle.vax.specs.Fields.{droppedMantissaD}
+use Rattle.vax.specs.Numbers.{droppedD, vaxDDropped}
+use Rattle.vax.specs.Exact.{ExactDroppedD}
+use Rattle.vax.proofs.Cases.{too-short}
+use Rattle.vax.proofs.Mantissas.{from-D-dropped}
+use Rattle.vax.proofs.Exact.{vaxDDropped-exact, as-defined}
+use Rattle.vax.proofs.vax_d_dropped.Statement.{statement}
+use Rattle.vax.proofs.vax_d_dropped.Tie as tie
+
+-- both clauses, from the first
+meets : (s : List ℕ) (o : Outcome Float) → o ≡ vaxDDropped s → (o ≡ vaxDDropped s) × ExactDroppedD s o
+meets s = as-defined s (droppedMantissaD s) 184 (vaxDDropped s) (vaxDDropped-exact s)
+
+returns : tie.Need-returns
+returns c =
+    let s = now (c .before .before .args .bytes) in
+    meets s (refuse 1 0) (sym (too-short (droppedD s) s 8 (c .if1 .taken)))
+
+fraction-d-requires : tie.Need-fraction-d-requires
+fraction-d-requires c κs = search needs
+
+add-mantissa : tie.Need-add-mantissa
+add-mantissa c = search needs
+
+number-requires : tie.Need-number-requires
+number-requires c κs = search needs
+
+returns-2 : tie.Need-returns-2
+returns-2 c =
+    let s = now (c .before .before .before .before .args .bytes) in
+    let fraction = c .before .fraction-d in
+    meets s (decoded (c .number .result)) (c .number .ensures ∙ from-D-dropped s (fraction .result) (fraction .ensures .0) (c .before .before .if1 .left))
+
+pub vax-d-dropped-spec : {M : Type 1} → statement M
+vax-d-dropped-spec =
+    tie.close (tie.spec returns fraction-d-requires add-mantissa number-requires returns-2)
