@@ -344,17 +344,25 @@ int64_t crest_sample(uint8_t sample);
 crest_result crest_vax_f(const uint8_t *bytes, size_t bytes_len, double *number);
 
 /*
- * vax::vax_d. Reads a VAX D number from the first 8 bytes, without the three lowest of its 55 fraction bits.
+ * vax::vax_d. Reads a VAX D number from the first 8 bytes as the nearest double, a tie going to the even one.
  * Refuses: SHORT, RESERVED.
  * Writes: number.
  */
 crest_result crest_vax_d(const uint8_t *bytes, size_t bytes_len, double *number);
 
 /*
+ * vax::vax_d_dropped. Reads a VAX D number from the first 8 bytes, without the three lowest of its 55 fraction bits, for old jobs: what
+ * crest_vax_d gives, or the next double towards zero.
+ * Refuses: SHORT, RESERVED.
+ * Writes: number.
+ */
+crest_result crest_vax_d_dropped(const uint8_t *bytes, size_t bytes_len, double *number);
+
+/*
  * orbit::per_orbit_opening. Reads the opening of the Magellan per-orbit parameters from the first 20 bytes of its data block, which in
  * a record of file 12 begins 8 bytes into the value, behind the secondary header.
  * Refuses: SHORT; RESERVED with place 4 for the start, then with place 12 for the stop.
- * Writes: orbit; start and stop, in seconds.
+ * Writes: orbit; start and stop, in seconds, as crest_vax_d reads them.
  */
 crest_result crest_opening(const uint8_t *bytes, size_t bytes_len, uint64_t *orbit, double *start, double *stop);
 

@@ -411,6 +411,26 @@ fn number_calls(times: &[[u8; 8]], samples: &[u8]) {
         || repeated(times, |time| plain::vax_d(time).map_or(0, bits)),
     );
     compare(
+        "vax_d, beside a conversion",
+        REPEATS * times.len(),
+        || repeated(times, |time| crestulbino::vax_d(time).map_or(0, bits)),
+        || {
+            repeated(times, |time| {
+                plain::vax_d_by_conversion(time).map_or(0, bits)
+            })
+        },
+    );
+    compare(
+        "vax_d_dropped, a number",
+        REPEATS * times.len(),
+        || {
+            repeated(times, |time| {
+                crestulbino::vax_d_dropped(time).map_or(0, bits)
+            })
+        },
+        || repeated(times, |time| plain::vax_d_dropped(time).map_or(0, bits)),
+    );
+    compare(
         "sample, a sample",
         REPEATS * samples.len(),
         || repeated(samples, |&sample| crestulbino::sample(sample) as usize),

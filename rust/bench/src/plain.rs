@@ -594,12 +594,44 @@ pub fn mode(number: u64) -> u64 {
     number.min(8)
 }
 
-/// Reads a VAX D number without the three lowest bits of its fraction.
-#[inline(never)]
-pub fn vax_d(bytes: &[u8]) -> Result<f64, Fault> {
+/// The bits of a VAX D number: sign, exponent and fraction.
+fn d_bits(bytes: &[u8]) -> Result<u64, Fault> {
     let bytes: &[u8; 8] = bytes.first_chunk().ok_or((1, 0))?;
     let word = |at| u64::from(u16::from_le_bytes([bytes[at], bytes[at + 1]]));
-    let bits = (word(0) << 48) | (word(2) << 32) | (word(4) << 16) | word(6);
+    Ok((word(0) << 48) | (word(2) << 32) | (word(4) << 16) | word(6))
+}
+
+/// Reads a VAX D number as the nearest float. The bits of a number that is rounded up run over into
+/// its exponent.
+#[inline(never)]
+pub fn vax_d(bytes: &[u8]) -> Result<f64, Fault> {
+    let bits = d_bits(bytes)?;
+    let (sign, exponent) = (bits >> 63, (bits >> 55) & 0xff);
+    if exponent == 0 {
+        return if sign == 0 { Ok(0.0) } else { Err((9, 0)) };
+    }
+    let size = bits & !(1 << 63);
+    let rounded = (size + 3 + ((size >> 3) & 1)) >> 3;
+    Ok(f64::from_bits((sign << 63) | (rounded + (894 << 52))))
+}
+
+/// Reads a VAX D number as the language makes a float of its mantissa, times a power of two.
+#[inline(never)]
+pub fn vax_d_by_conversion(bytes: &[u8]) -> Result<f64, Fault> {
+    let bits = d_bits(bytes)?;
+    let (sign, exponent) = (bits >> 63, (bits >> 55) & 0xff);
+    if exponent == 0 {
+        return if sign == 0 { Ok(0.0) } else { Err((9, 0)) };
+    }
+    let mantissa = (1 << 55) | (bits & ((1 << 55) - 1));
+    let power = f64::from_bits((sign << 63) | ((exponent + 839) << 52));
+    Ok(mantissa as f64 * power)
+}
+
+/// Reads a VAX D number without the three lowest bits of its fraction.
+#[inline(never)]
+pub fn vax_d_dropped(bytes: &[u8]) -> Result<f64, Fault> {
+    let bits = d_bits(bytes)?;
     let (sign, exponent) = (bits >> 63, (bits >> 55) & 0xff);
     if exponent == 0 {
         return if sign == 0 { Ok(0.0) } else { Err((9, 0)) };

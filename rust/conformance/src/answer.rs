@@ -111,6 +111,7 @@ pub fn answer(library: &Library, case: &Case) -> String {
         Case::Sample { byte } => line(Ok((library.sample)(*byte))),
         Case::VaxF { bytes } => line((library.vax_f)(bytes).map(Float)),
         Case::VaxD { bytes } => line((library.vax_d)(bytes).map(Float)),
+        Case::VaxDDropped { bytes } => line((library.vax_d_dropped)(bytes).map(Float)),
         Case::Opening { bytes } => line((library.opening)(bytes).map(|opening| {
             let (start, stop) = (Float(opening.start), Float(opening.stop));
             format!("{} {start} {stop}", opening.orbit)

@@ -87,6 +87,7 @@ cases! {
     "sample" Sample { byte: u8 }
     "vax_f" VaxF { bytes: Vec<u8> }
     "vax_d" VaxD { bytes: Vec<u8> }
+    "vax_d_dropped" VaxDDropped { bytes: Vec<u8> }
     "opening" Opening { bytes: Vec<u8> }
     "verdict" Verdict { element: u64, value: i64 }
     "burst_field" BurstField { file: Vec<u8>, start: usize, row: usize, position: u64 }

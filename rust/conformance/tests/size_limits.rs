@@ -426,6 +426,7 @@ fn more_bytes_than_a_file_may_have_where_none_is_lent() {
         assert_eq!(written, refused(Refusal::BadLabel));
         assert_eq!((library.vax_f)(&zeros[..TURN + 3]), Ok(0.0));
         assert_eq!((library.vax_d)(&zeros[..TURN + 7]), Ok(0.0));
+        assert_eq!((library.vax_d_dropped)(&zeros[..TURN + 7]), Ok(0.0));
         assert_eq!(
             (library.opening)(&zeros).map(|opening| opening.orbit),
             Ok(0)

@@ -72,3 +72,11 @@ fn stored_answers_of_addresses() {
         include_str!("data/address.answers"),
     );
 }
+
+#[test]
+fn stored_answers_of_d_numbers_to_the_nearest() {
+    same(
+        include_str!("data/nearest.cases"),
+        include_str!("data/nearest.answers"),
+    );
+}

@@ -127,6 +127,7 @@ unsafe extern "C" {
     fn crest_sample(sample: u8) -> i64;
     fn crest_vax_f(bytes: *const u8, bytes_len: usize, number: *mut f64) -> Outcome;
     fn crest_vax_d(bytes: *const u8, bytes_len: usize, number: *mut f64) -> Outcome;
+    fn crest_vax_d_dropped(bytes: *const u8, bytes_len: usize, number: *mut f64) -> Outcome;
     fn crest_opening(bytes: *const u8, bytes_len: usize, orbit: *mut u64, start: *mut f64, stop: *mut f64) -> Outcome;
     fn crest_verdict(element: u64, value: i64, verdict: *mut u64) -> Outcome;
     fn crest_burst_field(file: *const u8, file_len: usize, start: u64, row: u64, position: u64, r#type: *mut u64, bits: *mut u64, place: *mut u64, shown: *mut u64) -> Outcome;
@@ -474,6 +475,12 @@ pub(crate) fn vax_d(bytes: &[u8], number: &mut f64) -> Outcome {
 }
 
 #[inline]
+pub(crate) fn vax_d_dropped(bytes: &[u8], number: &mut f64) -> Outcome {
+    // SAFETY: `bytes` is a shared slice with its length; `number` is lent alone.
+    unsafe { crest_vax_d_dropped(bytes.as_ptr(), bytes.len(), number) }
+}
+
+#[inline]
 pub(crate) fn opening(bytes: &[u8], orbit: &mut u64, start: &mut f64, stop: &mut f64) -> Outcome {
     // SAFETY: `bytes` is a shared slice with its length; `orbit`, `start` and `stop` are lent alone.
     unsafe { crest_opening(bytes.as_ptr(), bytes.len(), orbit, start, stop) }
@@ -631,6 +638,7 @@ mod tests {
             }
             assert_eq!(crest_vax_f(null(), 0, &mut start), refused(1));
             assert_eq!(crest_vax_d(null(), 0, &mut start), refused(1));
+            assert_eq!(crest_vax_d_dropped(null(), 0, &mut start), refused(1));
             let opening = crest_opening(null(), 0, &mut one, &mut start, &mut stop);
             assert_eq!(opening, refused(1));
             let kept = crest_keep_index(null(), 0, null_mut(), 0, &mut one);

@@ -709,7 +709,16 @@ fn vax_numbers() {
         (&reserved, Err(refused(9, 0))),
     ] {
         answers_number("vax_d", expected, |number| ffi::vax_d(bytes, number));
+        answers_number("vax_d_dropped", expected, |number| {
+            ffi::vax_d_dropped(bytes, number)
+        });
     }
+    // 2 less a last place.
+    let all_ones = [0xff, 0x40, 0xff, 0xff, 0xff, 0xff, 0xff, 0xff];
+    answers_number("vax_d", Ok(2.0), |number| ffi::vax_d(&all_ones, number));
+    answers_number("vax_d_dropped", Ok(2.0 - f64::EPSILON), |number| {
+        ffi::vax_d_dropped(&all_ones, number)
+    });
 }
 
 #[test]

@@ -88,5 +88,5 @@ pub use index::{
     build_index, check_index, keep_index, load_kept, Built, KEPT_FRONT_BYTES, ROWS_PER_ENTRY,
 };
 pub use label::{read_label, write_label, Label, Version, Versions, LABEL_BYTES};
-pub use numbers::{opening, sample, vax_d, vax_f, verdict, Opening, Verdict};
+pub use numbers::{opening, sample, vax_d, vax_d_dropped, vax_f, verdict, Opening, Verdict};
 pub use refusal::{Refusal, Refused};

@@ -28,13 +28,16 @@ pub fn vax_f(bytes: &[u8]) -> Result<f64, Refused> {
     Ok(number)
 }
 
-/// Reads a VAX D number from the first 8 bytes, without the three lowest of its 55 fraction
-/// bits. What follows is ignored.
+/// Reads a VAX D number from the first 8 bytes as the nearest 64-bit float, a tie going to the even
+/// one. What follows is ignored.
 ///
 /// Refuses: `Short`, `Reserved`.
 ///
 /// ```
 /// assert_eq!(crestulbino::vax_d(&[0x80, 0xc0, 0, 0, 0, 0, 0, 0])?, -1.0);
+/// // All 56 digits are ones: rounded to the next power of two.
+/// let ones = [0xff, 0x40, 0xff, 0xff, 0xff, 0xff, 0xff, 0xff];
+/// assert_eq!(crestulbino::vax_d(&ones)?, 2.0);
 /// # Ok::<(), crestulbino::Refused>(())
 /// ```
 #[inline]
@@ -44,14 +47,31 @@ pub fn vax_d(bytes: &[u8]) -> Result<f64, Refused> {
     Ok(number)
 }
 
+/// Reads a VAX D number from the first 8 bytes, without the three lowest of its 55 fraction bits, for
+/// old jobs. What follows is ignored. It is what [`vax_d`] gives, or the next float towards zero.
+///
+/// Refuses: `Short`, `Reserved`.
+///
+/// ```
+/// let ones = [0xff, 0x40, 0xff, 0xff, 0xff, 0xff, 0xff, 0xff];
+/// assert_eq!(crestulbino::vax_d_dropped(&ones)?, 2.0 - f64::EPSILON);
+/// # Ok::<(), crestulbino::Refused>(())
+/// ```
+#[inline]
+pub fn vax_d_dropped(bytes: &[u8]) -> Result<f64, Refused> {
+    let mut number = 0.0;
+    ffi::vax_d_dropped(bytes, &mut number).result()?;
+    Ok(number)
+}
+
 /// The opening of the Magellan per-orbit parameters.
 #[derive(Clone, Copy, Debug, PartialEq)]
 pub struct Opening {
     /// The orbit's number.
     pub orbit: u64,
-    /// When mapping starts, in seconds.
+    /// When mapping starts, in seconds, as [`vax_d`] reads it.
     pub start: f64,
-    /// When mapping stops, in seconds.
+    /// When mapping stops, in seconds, as [`vax_d`] reads it.
     pub stop: f64,
 }
 

@@ -105,7 +105,7 @@ fn declared_functions() -> Vec<Function> {
 #[test]
 fn declarations_are_those_of_the_header_in_its_order() {
     let header = header_functions();
-    assert_eq!(header.len(), 27);
+    assert_eq!(header.len(), 28);
     assert_eq!(declared_functions(), header);
 }
 

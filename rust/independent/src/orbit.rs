@@ -33,7 +33,7 @@ pub fn opening(bytes: &[u8]) -> Result<Opening, Refusal> {
     })
 }
 
-/// A D number at `place`, whose refusal names that place.
+/// A D number at `place`, to the nearest, whose refusal names that place.
 fn time_at(bytes: &[u8], place: usize) -> Result<f64, Refusal> {
     vax::d_float(&bytes[place..]).map_err(|refusal| refusal.reason.at(place as u64))
 }
@@ -61,6 +61,17 @@ mod tests {
         assert_eq!(opening(&bytes), Ok(expected));
         bytes.extend([1; 500]);
         assert_eq!(opening(&bytes), Ok(expected));
+    }
+
+    #[test]
+    fn both_times_are_the_nearest() {
+        // 2 less a last place, and 2 less eight of them.
+        let up = [0xff, 0x40, 0xff, 0xff, 0xff, 0xff, 0xff, 0xff];
+        let down = [0xff, 0x40, 0xff, 0xff, 0xff, 0xff, 0xf8, 0xff];
+        let read = opening(&block(up, down)).unwrap();
+        assert_eq!((read.start, read.stop), (2.0, 2.0 - f64::EPSILON));
+        let read = opening(&block(down, up)).unwrap();
+        assert_eq!((read.start, read.stop), (2.0 - f64::EPSILON, 2.0));
     }
 
     #[test]

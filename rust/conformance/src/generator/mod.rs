@@ -35,6 +35,7 @@ pub struct Generator {
     written: Deck<Written>,
     samples: Deck<u8>,
     vax_numbers: Deck<VaxNumber>,
+    rounded: Deck<(DCall, RoundedNumber)>,
     limit_values: Deck<(u64, i64)>,
     unknown_elements: Deck<u64>,
     burst_edges: Deck<(bursts::Call, bursts::Edge)>,
@@ -62,6 +63,25 @@ enum Fraction {
     Any,
 }
 
+/// A D number at an edge of its rounding.
+#[derive(Clone, Copy)]
+struct RoundedNumber {
+    sign: u64,
+    exponent: Option<u64>,
+    /// The fraction's upper 51 bits.
+    upper: Fraction,
+    /// Its last four: the last one that stays, and the three that do not.
+    last: u64,
+}
+
+/// A call that reads a D number.
+type DCall = fn(Vec<u8>) -> Case;
+
+const D_CALLS: [DCall; 2] = [
+    |bytes| Case::VaxD { bytes },
+    |bytes| Case::VaxDDropped { bytes },
+];
+
 /// What a label is to be written of.
 #[derive(Clone, Copy)]
 struct Written {
@@ -76,7 +96,7 @@ type Call = fn(&mut Generator) -> Case;
 
 /// How often each call is asked in a thousand lines. A deck that one of them deals from alone has
 /// no more than ten times as many cards.
-const CALLS: [(usize, Call); 38] = [
+const CALLS: [(usize, Call); 39] = [
     (26, Generator::read_spaces_and_digits),
     (3, Generator::read_binary_text),
     (9, Generator::read_binary_length),
@@ -85,16 +105,16 @@ const CALLS: [(usize, Call); 38] = [
     (17, Generator::write_label),
     (13, Generator::write_harmed_head),
     (7, Generator::write_any_head),
-    (33, Generator::check_labelled),
+    (31, Generator::check_labelled),
     (5, Generator::check_waveform),
-    (41, Generator::read_row_labelled),
+    (36, Generator::read_row_labelled),
     (10, Generator::read_row_waveform),
-    (55, Generator::jump_labelled),
+    (47, Generator::jump_labelled),
     (10, Generator::jump_waveform),
-    (35, Generator::row_from_labelled),
+    (30, Generator::row_from_labelled),
     (11, Generator::row_from_waveform),
-    (31, Generator::build_index),
-    (31, Generator::check_index),
+    (28, Generator::build_index),
+    (28, Generator::check_index),
     (63, Generator::last_object),
     (65, Generator::binary_object),
     (42, Generator::classed),
@@ -104,12 +124,13 @@ const CALLS: [(usize, Call); 38] = [
     (26, Generator::sample),
     (13, Generator::vax_f),
     (15, Generator::vax_d),
+    (35, Generator::vax_d_rounded),
     (15, Generator::opening),
     (57, Generator::verdict_at_limit),
-    (14, Generator::verdict),
+    (9, Generator::verdict),
     (12, Generator::verdict_unknown),
     (24, Generator::burst_edge),
-    (14, |generator| bursts::row(&mut generator.random)),
+    (10, |generator| bursts::row(&mut generator.random)),
     (128, Generator::burst_field),
     (24, Generator::burst_limit),
     (24, Generator::burst_unknown),
@@ -176,6 +197,7 @@ impl Generator {
             written: Deck::new(written()),
             samples: Deck::new((0..=255).collect()),
             vax_numbers: Deck::new(vax_numbers()),
+            rounded: Deck::new(rounded()),
             limit_values: Deck::new(limit_values()),
             unknown_elements: Deck::new(unknown_elements()),
             burst_edges: Deck::new(bursts::asked_at_edges()),
@@ -590,7 +612,12 @@ impl Generator {
     fn vax_d(&mut self) -> Case {
         let mut bytes = self.vax_number(4);
         self.change_length(&mut bytes);
-        Case::VaxD { bytes }
+        self.random.pick(&D_CALLS)(bytes)
+    }
+
+    fn vax_d_rounded(&mut self) -> Case {
+        let (call, number) = self.rounded.deal(&mut self.random);
+        call(self.rounded_number(number))
     }
 
     fn opening(&mut self) -> Case {
@@ -600,7 +627,13 @@ impl Generator {
             self.random.bytes(4)
         };
         for _ in 0..2 {
-            let mut time = self.vax_number(4);
+            let mut time = if self.random.chance(50) {
+                self.vax_number(4)
+            } else {
+                let numbers = rounded_numbers();
+                let number = self.random.pick(&numbers);
+                self.rounded_number(number)
+            };
             if self.random.chance(25) {
                 // Reserved, whatever its fraction.
                 time[0] &= 0x7f;
@@ -837,11 +870,28 @@ impl Generator {
             Fraction::Full => full - self.random.pick(&[0, 0, 7, 8]),
             Fraction::Any => self.random.draw() & full,
         };
-        let bits = (((number.sign << 8) | exponent) << fraction_bits) | fraction;
-        (0..words)
-            .rev()
-            .flat_map(|word| ((bits >> (16 * word)) as u16).to_le_bytes())
-            .collect()
+        in_words(
+            (((number.sign << 8) | exponent) << fraction_bits) | fraction,
+            words,
+        )
+    }
+
+    /// The bytes of a D number at an edge of its rounding.
+    fn rounded_number(&mut self, number: RoundedNumber) -> Vec<u8> {
+        let exponent = number
+            .exponent
+            .unwrap_or_else(|| self.random.below(255) + 1);
+        let full = (1 << 51) - 1;
+        let upper = match number.upper {
+            Fraction::Zero => 0,
+            Fraction::LowBits => self.random.between(1, 16) as u64,
+            Fraction::Full => full,
+            Fraction::Any => self.random.draw() & full,
+        };
+        in_words(
+            (((((number.sign << 8) | exponent) << 51) | upper) << 4) | number.last,
+            4,
+        )
     }
 
     /// Cuts some bytes off or appends some, at times.
@@ -981,6 +1031,47 @@ fn vax_numbers() -> Vec<VaxNumber> {
     numbers
 }
 
+/// The words of a VAX number, the most significant in front and each with its
+/// low byte first.
+fn in_words(bits: u64, words: u32) -> Vec<u8> {
+    (0..words)
+        .rev()
+        .flat_map(|word| ((bits >> (16 * word)) as u16).to_le_bytes())
+        .collect()
+}
+
+/// Everything that a fraction can end in, and at the edges of the exponent and
+/// of the fraction what stands beside a tie and all ones.
+fn rounded_numbers() -> Vec<RoundedNumber> {
+    let any = (0..16).map(|last| (None, Fraction::Any, last));
+    let at_edges = [1, 2, 128, 254, 255].into_iter().flat_map(|exponent| {
+        [Fraction::Zero, Fraction::Full]
+            .into_iter()
+            .flat_map(move |upper| {
+                [0b0011, 0b0100, 0b0101, 0b1011, 0b1100, 0b1101, 0b1111]
+                    .map(|last| (Some(exponent), upper, last))
+            })
+    });
+    any.chain(at_edges)
+        .flat_map(|(exponent, upper, last)| {
+            [0, 1].map(|sign| RoundedNumber {
+                sign,
+                exponent,
+                upper,
+                last,
+            })
+        })
+        .collect()
+}
+
+/// Each of them for each call.
+fn rounded() -> Vec<(DCall, RoundedNumber)> {
+    rounded_numbers()
+        .into_iter()
+        .flat_map(|number| D_CALLS.map(|call| (call, number)))
+        .collect()
+}
+
 /// Each limit of each element, with its neighbours on both sides.
 fn limit_values() -> Vec<(u64, i64)> {
     let mut values = Vec::new();
@@ -1074,6 +1165,7 @@ mod tests {
             assert!(generator.written.is_through());
             assert!(generator.samples.is_through());
             assert!(generator.vax_numbers.is_through());
+            assert!(generator.rounded.is_through());
             assert!(generator.limit_values.is_through());
             assert!(generator.unknown_elements.is_through());
             assert!(generator.burst_edges.is_through());
@@ -1116,7 +1208,7 @@ mod tests {
             ("build_index ", &["ok", "1", "2", "3", "4", "5", "8"]),
             ("check_index ", &["ok", "1", "2", "3", "4", "5", "11"]),
         ];
-        let others: [(&str, &[&str]); 21] = [
+        let others: [(&str, &[&str]); 22] = [
             ("write_label 1", &["ok", "2", "15", "8"]),
             ("write_label 2", &["ok", "2", "8"]),
             ("check_waveform", &["ok", "12"]),
@@ -1128,6 +1220,7 @@ mod tests {
             ("sample", &["ok"]),
             ("vax_f", &["ok", "1", "9"]),
             ("vax_d", &["ok", "1", "9"]),
+            ("vax_d_dropped", &["ok", "1", "9"]),
             ("opening", &["ok", "1", "9"]),
             ("verdict", &["ok", "10"]),
             ("check_bursts", &["ok", "16", "12"]),

@@ -79,6 +79,7 @@ pub const INDEPENDENT: Library = Library {
     sample: |byte| waveform::sample(byte).into(),
     vax_f: |bytes| vax::f_float(bytes).map_err(refused),
     vax_d: |bytes| vax::d_float(bytes).map_err(refused),
+    vax_d_dropped: |bytes| vax::d_float_dropped(bytes).map_err(refused),
     opening: |bytes| {
         let opening = orbit::opening(bytes).map_err(refused)?;
         Ok(Opening {
