@@ -1,5 +1,5 @@
 pub mod Scaled
-pub mod Joined
+pub mod Patterns
 pub mod Cases
 pub mod Rounded
 pub mod Mantissas

@@ -19,9 +19,10 @@ use Rattle.rounding.specs.Nearest.{apart, IsNearest}
 use Rattle.rounding.proofs.Law.{round-is-nearest}
 use Rattle.vax.specs.Fields.{wordAt, signOf, negative, exponent, fractionD, mantissaD}
 use Rattle.vax.specs.Numbers.{zeroFloat, nearestD, droppedD, reading, vaxD, vaxDDropped}
+use Rattle.vax.specs.Private.{patterned, belowSignD}
 use Rattle.vax.specs.Nearest.{ToNearest, NearestD, OneStep, OneStepD}
 use Rattle.vax.proofs.Scaled.{odd-shifted}
-use Rattle.vax.proofs.Joined.{joinedBits, pattern}
+use Rattle.vax.proofs.Patterns.{written}
 use Rattle.vax.proofs.Rounded.{eighth-is, rounded}
 use Rattle.vax.proofs.Mantissas.{to-nearest, three-fewer}
 use Rattle.vax.proofs.Exact.{same-answer, never}
@@ -86,9 +87,8 @@ vaxD-nearest s small =
     go true false false v y e = subst (λ (z : Float). ToNearest z false (mantissaD s) (exponent s)) (same-answer (nearestD s) y e) v
 
 -- what equals the definition's outcome is the nearest: both clauses of the promise
-pub as-nearest : (s : List ℕ) (f : ℕ) → f ≡ fractionD s → f < 2 ^ 55 → (o : Outcome Float) → o ≡ vaxD s → (o ≡ vaxD s) × NearestD s o
-as-nearest s f e small o is =
-    (is, subst (λ (u : Outcome Float). NearestD s u) (sym is) (vaxD-nearest s (subst (λ (x : ℕ). x < 2 ^ 55) e small)))
+pub as-nearest : (s : List ℕ) → fractionD s < 2 ^ 55 → (o : Outcome Float) → o ≡ vaxD s → (o ≡ vaxD s) × NearestD s o
+as-nearest s small o is = (is, subst (λ (u : Outcome Float). NearestD s u) (sym is) (vaxD-nearest s small))
 
 -- ---- the two forms
 module _ (s : List ℕ) (bytes : (i : ℕ) → getD s i 0 < 256) where
@@ -108,21 +108,23 @@ module _ (s : List ℕ) (bytes : (i : ℕ) → getD s i 0 < 256) where
       omega arith
 
   abbrev m : ℕ
-  m = mantissaD s
+  m = belowSignD s
 
   abbrev bits : ℕ → ℕ
-  bits q = joinedBits (signOf s) (exponent s) q
+  bits size = signOf s * 2 ^ 63 + 894 * 2 ^ 52 + size
+
+  own-bits : (size : ℕ) → size ≤ 2 ^ 60 → toBits binary64 (patterned size s) ≡ bits size
+  own-bits size h = written (bits size) (omega (arith, one-bit)) (omega arith)
 
   nearest-bits : toBits binary64 (nearestD s) ≡ bits (closest m 8)
   nearest-bits =
-      let eighth = eighth-is m in
-      ap (λ (x : Float). toBits binary64 x) (sym (to-nearest s small))
-      ∙ pattern (signOf s) (exponent s) (closest m 8) one-bit (omega arith) (omega (arith, small)) (omega (arith, small))
+      ap (λ (x : Float). toBits binary64 x) (sym (to-nearest s (one-bit, small)))
+      ∙ own-bits (closest m 8) (omega (arith, small, eighth-is m))
 
   dropped-bits : toBits binary64 (droppedD s) ≡ bits (m / 8)
   dropped-bits =
-      ap (λ (x : Float). toBits binary64 x) (sym (three-fewer s))
-      ∙ pattern (signOf s) (exponent s) (m / 8) one-bit (omega arith) (omega (arith, small)) (omega (arith, small))
+      ap (λ (x : Float). toBits binary64 x) (sym (three-fewer s (one-bit, small)))
+      ∙ own-bits (m / 8) (omega (arith, small))
 
   one-more : (q d : ℕ) → (q ≡ d) ⊎ (q ≡ suc d) → (bits q ≡ bits d) ⊎ (bits q ≡ suc (bits d))
   one-more q d c = elim c [ inl e ↦ inl (ap bits e) | inr e ↦ inr (omega arith) ]

@@ -25,6 +25,26 @@ eighth-is m = go (compare (m % 8 * 2) 8) (says (m % 8 * 2) 8)
     go Ordering·eq h = omega arith
     go Ordering·gt h = omega arith
 
+-- whole multiples of 16 in front come out as they are
+pub eighth-above : (e f : ℕ) → closest (e * 2 ^ 55 + f) 8 ≡ e * 2 ^ 52 + closest f 8
+eighth-above e f =
+    sym (eighth-is (e * 2 ^ 55 + f))
+    ∙ ap (λ (b : ℕ). (e * 2 ^ 55 + f + 3 + b) / 8) same-parity
+    ∙ cut (f / 8 % 2)
+    ∙ ap (λ (x : ℕ). e * 2 ^ 52 + x) (eighth-is f)
+  where
+    above : (e * 2 ^ 55 + f) / 8 ≡ e * 2 ^ 52 + f / 8
+    above = omega arith
+
+    parity : (x : ℕ) → (e * 2 ^ 52 + x) % 2 ≡ x % 2
+    parity x = omega arith
+
+    same-parity : (e * 2 ^ 55 + f) / 8 % 2 ≡ f / 8 % 2
+    same-parity = ap (λ (x : ℕ). x % 2) above ∙ parity (f / 8)
+
+    cut : (b : ℕ) → (e * 2 ^ 55 + f + 3 + b) / 8 ≡ e * 2 ^ 52 + (f + 3 + b) / 8
+    cut b = omega arith
+
 units-is : (s : Bool) (q k : ℕ) → q * 2 ^ k < 2 ^ 2098 → units binary64 s q k ≡ odd 54 s q k 1074
 unfolding units
 units-is s q k h = simp (lt-ltb (q * 2 ^ k) (2 ^ 2098) h)

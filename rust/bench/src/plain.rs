@@ -636,10 +636,8 @@ pub fn vax_d_dropped(bytes: &[u8]) -> Result<f64, Fault> {
     if exponent == 0 {
         return if sign == 0 { Ok(0.0) } else { Err((9, 0)) };
     }
-    let fraction = (bits & ((1 << 55) - 1)) >> 3;
-    Ok(f64::from_bits(
-        (sign << 63) | ((exponent + 894) << 52) | fraction,
-    ))
+    let size = bits & !(1 << 63);
+    Ok(f64::from_bits((sign << 63) | ((size >> 3) + (894 << 52))))
 }
 
 /// Twice the amplitude of a sample.

@@ -16,7 +16,7 @@ add-result-2 c = search needs
 
 returns : tie.Need-returns
 returns c =
-    let m = c .args .mantissa in
+    let m = c .args .bits in
     let formula : (m + 3 + m / 8 % 2) / 8 ≡ closest m 8 = eighth-is m in
     (omega arith, omega arith, omega arith)
 

@@ -1,11 +1,11 @@
--- `vax::vax_d` meets its contract: `number` answers for the nearest eighth of the mantissa, which is the definition's float.
+-- `vax::vax_d` meets its contract: `number` answers for the nearest eighth of the bits, which is the definition's float.
 use Prim.Native.Nat.{ℕ}
 use mathlib.Core.Path.{_∙_, sym, ap}
 use denote.Ref.{now}
 use borrow.Author.Needs.{needs}
 use Rattle.vax.specs.Decoded.{decoded}
 use Rattle.vax.specs.Numbers.{byExponent, nearestD}
-use Rattle.vax.specs.Private.{joined}
+use Rattle.vax.specs.Private.{patterned}
 use Rattle.vax.proofs.Cases.{too-short}
 use Rattle.vax.proofs.Mantissas.{from-D}
 use Rattle.vax.proofs.Exact.{never}
@@ -18,11 +18,8 @@ returns c =
     let s = now (c .before .before .args .bytes) in
     (sym (too-short (nearestD s) s 8 (c .if1 .taken)), λ x e. never 1 0 x e)
 
-fraction-d-requires : tie.Need-fraction-d-requires
-fraction-d-requires c κs = search needs
-
-add-digits : tie.Need-add-digits
-add-digits c = search needs
+bits-d-requires : tie.Need-bits-d-requires
+bits-d-requires c κs = search needs
 
 nearest-eighth-requires : tie.Need-nearest-eighth-requires
 nearest-eighth-requires c κs = search needs
@@ -33,20 +30,19 @@ number-requires c κs = search needs
 returns-2 : tie.Need-returns-2
 returns-2 c =
     let long = c .before .before .before in
-    let fraction = c .before .before .fraction-d in
+    let bits = c .before .before .bits-d in
     let s = now (long .before .before .args .bytes) in
-    as-nearest s (fraction .result) (fraction .ensures .0) (fraction .ensures .1) (decoded (c .number .result))
+    as-nearest s (bits .ensures .1 .1) (decoded (c .number .result))
     (c .number .ensures
-    ∙ ap (λ (q : ℕ). byExponent (joined q s) s) (c .before .nearest-eighth .ensures .0)
-    ∙ from-D s (fraction .result) (fraction .ensures .0) (fraction .ensures .1) (long .if1 .left))
+    ∙ ap (λ (q : ℕ). byExponent (patterned q s) s) (c .before .nearest-eighth .ensures .0)
+    ∙ from-D s (bits .result) (bits .ensures .0) (bits .ensures .1) (long .if1 .left))
 
 pub vax-d-spec : {M : Type 1} → statement M
 vax-d-spec =
     tie.close
     (tie.spec
     returns
-    fraction-d-requires
-    add-digits
+    bits-d-requires
     nearest-eighth-requires
     number-requires
     returns-2)

@@ -1,6 +1,6 @@
--- `vax::vax_d_dropped` meets its contract: `number` answers for the mantissa of 53 digits, which is the definition's float.
+-- `vax::vax_d_dropped` meets its contract: `number` answers for the bits less three, which is the definition's float.
 use Prim.Native.Nat.{ℕ}
-use mathlib.Core.Path.{_≡_, _∙_, sym}
+use mathlib.Core.Path.{_≡_, _∙_, sym, ap}
 use mathlib.Core.List.{List}
 use lib.Ieee.{Float}
 use denote.Ref.{now}
@@ -8,7 +8,8 @@ use borrow.Author.Needs.{needs}
 use Rattle.answer.specs.Outcome.{Outcome, refuse}
 use Rattle.vax.specs.Decoded.{decoded}
 use Rattle.vax.specs.Fields.{droppedMantissaD}
-use Rattle.vax.specs.Numbers.{droppedD, vaxDDropped}
+use Rattle.vax.specs.Numbers.{byExponent, droppedD, vaxDDropped}
+use Rattle.vax.specs.Private.{patterned}
 use Rattle.vax.specs.Exact.{ExactDroppedD}
 use Rattle.vax.proofs.Cases.{too-short}
 use Rattle.vax.proofs.Mantissas.{from-D-dropped}
@@ -25,21 +26,31 @@ returns c =
     let s = now (c .before .before .args .bytes) in
     meets s (refuse 1 0) (sym (too-short (droppedD s) s 8 (c .if1 .taken)))
 
-fraction-d-requires : tie.Need-fraction-d-requires
-fraction-d-requires c κs = search needs
+bits-d-requires : tie.Need-bits-d-requires
+bits-d-requires c κs = search needs
 
-add-mantissa : tie.Need-add-mantissa
-add-mantissa c = search needs
+dropped-eighth-requires : tie.Need-dropped-eighth-requires
+dropped-eighth-requires c κs = search needs
 
 number-requires : tie.Need-number-requires
 number-requires c κs = search needs
 
 returns-2 : tie.Need-returns-2
 returns-2 c =
-    let s = now (c .before .before .before .before .args .bytes) in
-    let fraction = c .before .fraction-d in
-    meets s (decoded (c .number .result)) (c .number .ensures ∙ from-D-dropped s (fraction .result) (fraction .ensures .0) (c .before .before .if1 .left))
+    let long = c .before .before .before in
+    let bits = c .before .before .bits-d in
+    let s = now (long .before .before .args .bytes) in
+    meets s (decoded (c .number .result))
+    (c .number .ensures
+    ∙ ap (λ (q : ℕ). byExponent (patterned q s) s) (c .before .dropped-eighth .ensures)
+    ∙ from-D-dropped s (bits .result) (bits .ensures .0) (bits .ensures .1) (long .if1 .left))
 
 pub vax-d-dropped-spec : {M : Type 1} → statement M
 vax-d-dropped-spec =
-    tie.close (tie.spec returns fraction-d-requires add-mantissa number-requires returns-2)
+    tie.close
+    (tie.spec
+    returns
+    bits-d-requires
+    dropped-eighth-requires
+    number-requires
+    returns-2)

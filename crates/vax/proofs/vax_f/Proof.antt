@@ -1,4 +1,4 @@
--- `vax::vax_f` meets its contract: `number` answers for the mantissa of 53 digits, which is the definition's float.
+-- `vax::vax_f` meets its contract: `number` answers for the bits with 29 zeros more, which is the definition's float.
 use Prim.Native.Nat.{ℕ}
 use mathlib.Core.Path.{_≡_, _∙_, sym}
 use mathlib.Core.List.{List}
@@ -25,11 +25,8 @@ returns c =
     let s = now (c .before .before .args .bytes) in
     meets s (refuse 1 0) (sym (too-short (exactF s) s 4 (c .if1 .taken)))
 
-fraction-f-requires : tie.Need-fraction-f-requires
-fraction-f-requires c κs = search needs
-
-add-mantissa : tie.Need-add-mantissa
-add-mantissa c = search needs
+bits-f-requires : tie.Need-bits-f-requires
+bits-f-requires c κs = search needs
 
 mul-number : tie.Need-mul-number
 mul-number c = search needs
@@ -39,11 +36,12 @@ number-requires c κs = search needs
 
 returns-2 : tie.Need-returns-2
 returns-2 c =
-    let s = now (c .before .before .before .before .args .bytes) in
-    let fraction = c .before .fraction-f in
-    meets s (decoded (c .number .result)) (c .number .ensures ∙ from-F s (fraction .result) (fraction .ensures .0) (c .before .before .if1 .left))
+    let long = c .before .before in
+    let bits = c .before .bits-f in
+    let s = now (long .before .before .args .bytes) in
+    meets s (decoded (c .number .result))
+    (c .number .ensures ∙ from-F s (bits .result) (bits .ensures .0) (bits .ensures .1) (long .if1 .left))
 
 pub vax-f-spec : {M : Type 1} → statement M
 vax-f-spec =
-    tie.close
-    (tie.spec returns fraction-f-requires add-mantissa mul-number number-requires returns-2)
+    tie.close (tie.spec returns bits-f-requires mul-number number-requires returns-2)

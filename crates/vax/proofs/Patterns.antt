@@ -1,5 +1,5 @@
--- The bit pattern that `join` builds, sign·2^63 + (e + 893)·2^52 + q, is read as the float q·2^(e−181). The leading bit
--- of q adds one to the exponent's field; where q is 2^53 it adds two, and the digits' field is empty.
+-- The pattern of bits sign·2^63 + (e + 893)·2^52 + q is read as the float q·2^(e−181). The leading bit of q adds one to the exponent's
+-- field; where q is 2^53 it adds two, and the digits' field is empty.
 use Prim.Native.Nat.{ℕ, suc, _+_, _-_, _*_, _/_, _%_, _^_, _≤_, _<_}
 use native.Mathlib.Nat.{eq-or-lt-of-le}
 use native.Mathlib.Omega.{arith}
@@ -12,8 +12,8 @@ use lib.Ieee.Bits.{nanBits-above, nanBits-is, toBits-ofBits}
 use borrow.Author.Tests.{le-leb, lt-leb, eq-eqb, ne-eqb, le-ltb}
 use Rattle.vax.proofs.Scaled.{odd-raised, odd-shifted, odd-digit}
 
-abbrev pub joinedBits : ℕ → ℕ → ℕ → ℕ
-joinedBits sign e q = sign * 2 ^ 63 + (e + 893) * 2 ^ 52 + q
+abbrev pub bitsOf : ℕ → ℕ → ℕ → ℕ
+bitsOf sign e q = sign * 2 ^ 63 + (e + 893) * 2 ^ 52 + q
 
 -- a field above 0 and below the one of the infinities has the leading digit
 read-normal : (s : Bool) (x t : ℕ) → suc x < 2047 → ofFields binary64 s (suc x) t ≡ odd 53 s (2 ^ 52 + t) x 1074
@@ -33,42 +33,39 @@ pub no-nan : (b : ℕ) → b % 2 ^ 63 ≤ 2047 * 2 ^ 52 → T (not (nanBits bina
 no-nan b small =
     subst (λ (t : Bool). T (not t)) (sym (nanBits-above binary64 b ∙ le-ltb (2047 * 2 ^ 52) (b % 2 ^ 63) small)) tt
 
+-- such a pattern is the float's own
+pub written : (b : ℕ) → b < 2 ^ 64 → b % 2 ^ 63 ≤ 2047 * 2 ^ 52 → toBits binary64 (ofBits binary64 b) ≡ b
+written b h small = toBits-ofBits binary64 b h (subst (λ (t : Bool). T (not t)) (nanBits-is binary64 b) (no-nan b small))
+
 -- 2^53 written with one exponent less
 carried : (s : Bool) (e : ℕ) → odd 53 s (2 ^ 52) e 180 ≡ odd 53 s (2 ^ 53) e 181
 carried s e = odd-digit 52 s (2 ^ 52) e 180 (lit< tt) (lit< tt) ∙ sym (odd-shifted 52 s (2 ^ 52) e 180 1 (lit< tt))
 
 module _ (sign e q : ℕ) (one-bit : sign < 2) (eight-bits : e < 256) (low : 2 ^ 52 ≤ q) (high : q ≤ 2 ^ 53) where
-  sign-bit : leb (2 ^ 63) (joinedBits sign e q) ≡ eqb sign 1
+  sign-bit : leb (2 ^ 63) (bitsOf sign e q) ≡ eqb sign 1
   sign-bit = elim (eq-or-lt-of-le one) [
-    | inl p ↦ le-leb (2 ^ 63) (joinedBits sign e q) (omega arith) ∙ sym (eq-eqb sign 1 p)
-    | inr p ↦ lt-leb (2 ^ 63) (joinedBits sign e q) (omega arith) ∙ sym (ne-eqb sign 1 (λ (z : sign ≡ 1). omega arith))
+    | inl p ↦ le-leb (2 ^ 63) (bitsOf sign e q) (omega arith) ∙ sym (eq-eqb sign 1 p)
+    | inr p ↦ lt-leb (2 ^ 63) (bitsOf sign e q) (omega arith) ∙ sym (ne-eqb sign 1 (λ (z : sign ≡ 1). omega arith))
   ]
     where
       one : sign ≤ 1
       one = omega arith
 
-  reads-back : ofBits binary64 (joinedBits sign e q) ≡ odd 53 (eqb sign 1) q e 181
+  reads-back : ofBits binary64 (bitsOf sign e q) ≡ odd 53 (eqb sign 1) q e 181
   reads-back = elim (eq-or-lt-of-le high) [
     | inl p ↦
-        read-fields (joinedBits sign e q) (e + 894) 0 (omega arith) (omega arith) (omega arith)
+        read-fields (bitsOf sign e q) (e + 894) 0 (omega arith) (omega arith) (omega arith)
         ∙ ap (λ (s : Bool). odd 53 s (2 ^ 52) (e + 894) 1074) sign-bit
         ∙ odd-raised 53 (eqb sign 1) (2 ^ 52) e 180 894
         ∙ carried (eqb sign 1) e
         ∙ ap (λ (x : ℕ). odd 53 (eqb sign 1) x e 181) (sym p)
     | inr p ↦
         let back : 2 ^ 52 + (q - 2 ^ 52) ≡ q = omega arith in
-        read-fields (joinedBits sign e q) (e + 893) (q - 2 ^ 52) (omega arith) (omega arith) (omega arith)
+        read-fields (bitsOf sign e q) (e + 893) (q - 2 ^ 52) (omega arith) (omega arith) (omega arith)
         ∙ ap (λ (s : Bool). odd 53 s (2 ^ 52 + (q - 2 ^ 52)) (e + 893) 1074) sign-bit
         ∙ ap (λ (x : ℕ). odd 53 (eqb sign 1) x (e + 893) 1074) back
         ∙ odd-raised 53 (eqb sign 1) q e 181 893
   ]
 
-  pub read-as : (b : ℕ) → b ≡ joinedBits sign e q → ofBits binary64 b ≡ odd 53 (eqb sign 1) q e 181
+  pub read-as : (b : ℕ) → b ≡ bitsOf sign e q → ofBits binary64 b ≡ odd 53 (eqb sign 1) q e 181
   read-as b same = ap (λ (x : ℕ). ofBits binary64 x) same ∙ reads-back
-
-  -- so it is that float's pattern
-  pub pattern : toBits binary64 (odd 53 (eqb sign 1) q e 181) ≡ joinedBits sign e q
-  pattern =
-      ap (λ (x : Float). toBits binary64 x) (sym reads-back)
-      ∙ toBits-ofBits binary64 (joinedBits sign e q) (omega arith)
-      (subst (λ (t : Bool). T (not t)) (nanBits-is binary64 (joinedBits sign e q)) (no-nan (joinedBits sign e q) (omega arith)))
