@@ -1,7 +1,7 @@
 -- A finite float of the format f is a whole number of the format's smallest value, 2^(−low): m·2^j of them, with m of `prec` digits
 -- at most. How far it is from ±a / c, in those units.
 use Prim.Native.Nat.{ℕ, zero, suc, _+_, _-_, _*_, _%_, _^_, _≤_, _<_}
-use native.Mathlib.Nat.{le-trans, le-of-eq, le-of-suc-le-suc, lt-of-lt-of-le, lt-of-not-le, lt-irrefl, mul-one, one-mul, zero-mul, mul-comm, mul-assoc, mul-right-comm, add-mul, mul-sub, mul-le-mul-right, mul-lt-mul-of-pos-right}
+use native.Mathlib.Nat.{le-of-suc-le-suc, lt-of-lt-of-le, lt-of-not-le, lt-irrefl, mul-one, zero-mul, mul-comm, mul-assoc, mul-right-comm, add-mul, mul-sub, mul-mod-left, pow-suc, eq-of-mul-eq-mul-right}
 use native.Mathlib.Omega.{arith}
 use mathlib.Core.Path.{_≡_, _∙_, refl, sym, ap, subst}
 use mathlib.Core.Bool.{Bool, true, false, not, _&&_, Bool·beq, cond}
@@ -54,9 +54,15 @@ in-units f (fin s (suc m) e) h t =
     let w = whole (low f) (suc m) e (leb→le (down e) (2 ^ low f) (and-r (a && b) c abc)) in
     (suc m, w .0, ltb→lt (suc m) (2 ^ prec f) (and-r a b (and-l (a && b) c abc)), w .1)
 
--- n units are a multiple of 2^k, or smaller than every number of `prec` digits that is one
+-- n units are a multiple of 2^k, an odd one having `prec` digits at most, or smaller than every number of `prec` digits that is one
 abbrev pub MultipleOrSmall : Format → ℕ → ℕ → Type 0
-MultipleOrSmall f k n = ((r : ℕ) × (n ≡ r * 2 ^ k)) ⊎ ((0 < k) × (n < 2 ^ (prec f - 1 + k)))
+MultipleOrSmall f k n = ((r : ℕ) × (n ≡ r * 2 ^ k) × (r % 2 ≡ 1 → r < 2 ^ prec f)) ⊎ ((0 < k) × (n < 2 ^ (prec f - 1 + k)))
+
+odd-is-short : (p m i : ℕ) → m < 2 ^ p → m * 2 ^ i % 2 ≡ 1 → m * 2 ^ i < 2 ^ p
+odd-is-short p m zero h o = subst (λ (x : ℕ). x < 2 ^ p) (sym (mul-one m)) h
+odd-is-short p m (suc i) h o =
+    let even : m * 2 ^ suc i % 2 ≡ 0 = ap (λ (x : ℕ). x % 2) (ap (λ (x : ℕ). m * x) (pow-suc 2 i) ∙ sym (mul-assoc m (2 ^ i) 2)) ∙ mul-mod-left (m * 2 ^ i) 2 in
+    absurd (omega arith)
 
 pub multiple-or-small : (f : Format) (k m j : ℕ) → 0 < prec f → m < 2 ^ prec f → MultipleOrSmall f k (m * 2 ^ j)
 multiple-or-small f k m j P h = go (leb k j) (leb→le k j) (nleb→lt k j)
@@ -68,10 +74,20 @@ multiple-or-small f k m j P h = go (leb k j) (leb→le k j) (nleb→lt k j)
     go true x y =
         let less : k ≤ j = x tt in
         let e : j - k + k ≡ j = omega arith in
-        inl (m * 2 ^ (j - k), ap (λ (z : ℕ). m * z) (ap (λ (z : ℕ). 2 ^ z) (sym e) ∙ pow-add 2 (j - k) k) ∙ sym (mul-assoc m (2 ^ (j - k)) (2 ^ k)))
+        inl (
+          m * 2 ^ (j - k),
+          ap (λ (z : ℕ). m * z) (ap (λ (z : ℕ). 2 ^ z) (sym e) ∙ pow-add 2 (j - k) k) ∙ sym (mul-assoc m (2 ^ (j - k)) (2 ^ k)),
+          odd-is-short (prec f) m (j - k) h,
+        )
     go false x y =
         let more : j < k = y tt in
         inr (omega arith, lt-of-lt-of-le (shl-lt (prec f) j h) (pow-mono (room (prec f) more)))
+
+-- no units are zero
+pub zero-units : (f : Format) (y : Float) (n : ℕ) → Units f y n → n ≡ 0 → num y ≡ 0
+zero-units f y n e z =
+    eq-of-mul-eq-mul-right (2 ^ low f) (pow-pos (low f)) (num y) 0
+    (e ∙ ap (λ (x : ℕ). x * den y) z ∙ zero-mul (den y) ∙ sym (zero-mul (2 ^ low f)))
 
 -- ---- how far, in units
 

@@ -1,9 +1,9 @@
 -- `closest n u`, n / u rounded to a whole number, gives the nearest multiple of u: no other multiple is nearer to n, and where another is
--- as near, the number is even.
+-- as near, the number is even and the other one odd.
 use Prim.Native.Nat.{ℕ, suc, _+_, _-_, _*_, _/_, _%_, _≤_, _<_, compare, Ordering, Ordering·lt, Ordering·eq, Ordering·gt}
 use native.Mathlib.Nat.{eq-zero-or-pos, mul-le-mul-right, suc-mul, mod-lt, div-add-mod', eq-of-mul-eq-mul-right}
 use native.Mathlib.Omega.{arith}
-use mathlib.Core.Path.{_≡_, _∙_, ap, subst}
+use mathlib.Core.Path.{_≡_, sym, subst}
 use mathlib.Core.Bool.{Bool, true, false, not}
 use mathlib.Core.Logic.{_⊎_, inl, inr}
 use lib.Dec.{T, leb, isLe, isEq, leb→le, nleb→lt, eqb→eq, eqb, eqb-refl}
@@ -34,43 +34,50 @@ beside u q r = go (leb r q) (leb→le r q) (nleb→lt r q)
     go true h k = inl (mul-le-mul-right u (h tt))
     go false h k = inr (subst (λ (x : ℕ). x ≤ r * u) (suc-mul q u) (mul-le-mul-right u (k tt)))
 
--- of n = q·u + rest the nearest multiple is d away, and another as near is that multiple or q' is even
-abbrev Least : ℕ → ℕ → ℕ → ℕ → Type 0
-Least n u r q = (apart (q * u) n ≤ apart (r * u) n) × (apart (q * u) n ≡ apart (r * u) n → (r ≡ q) ⊎ (q % 2 ≡ 0))
+-- q·u is no farther from n than r·u, and where it is as far, r is q or q is even and r odd
+abbrev pub Least : ℕ → ℕ → ℕ → ℕ → Type 0
+Least n u r q = (apart (q * u) n ≤ apart (r * u) n) × (apart (q * u) n ≡ apart (r * u) n → (r ≡ q) ⊎ ((q % 2 ≡ 0) × (r % 2 ≡ 1)))
 
 module _ (n u r q rest : ℕ) (above : 0 < u) (cut : q * u + rest ≡ n) (small : rest < u) where
+  next : suc q * u ≡ q * u + u
+  next = suc-mul q u
+
+  same : (p : ℕ) → r * u ≡ p * u → r ≡ p
+  same p e = eq-of-mul-eq-mul-right u above r p e
+
   down : rest * 2 < u → Least n u r q
   down h = elim (beside u q r) [
-    | inl b ↦ (omega arith, λ (e : apart (q * u) n ≡ apart (r * u) n). inl (eq-of-mul-eq-mul-right u above r q (omega arith)))
+    | inl b ↦ (omega arith, λ (e : apart (q * u) n ≡ apart (r * u) n). inl (same q (omega arith)))
     | inr b ↦ (omega arith, λ (e : apart (q * u) n ≡ apart (r * u) n). absurd (omega arith))
   ]
 
   up : u < rest * 2 → Least n u r (suc q)
-  up h =
-      let next : suc q * u ≡ q * u + u = suc-mul q u in
-      elim (beside u q r) [
-        | inl b ↦ (omega arith, λ (e : apart (suc q * u) n ≡ apart (r * u) n). absurd (omega arith))
-        | inr b ↦ (omega arith, λ (e : apart (suc q * u) n ≡ apart (r * u) n). inl (eq-of-mul-eq-mul-right u above r (suc q) (omega arith)))
-      ]
+  up h = elim (beside u q r) [
+    | inl b ↦ (omega (arith, next), λ (e : apart (suc q * u) n ≡ apart (r * u) n). absurd (omega (arith, next)))
+    | inr b ↦ (omega (arith, next), λ (e : apart (suc q * u) n ≡ apart (r * u) n). inl (same (suc q) (omega (arith, next))))
+  ]
 
-  -- a tie: both neighbours of n are as near
-  level : (p : ℕ) → rest * 2 ≡ u → p % 2 ≡ 0 → (p * u ≡ q * u) ⊎ (p * u ≡ q * u + u) → Least n u r p
-  level p h even w = (elim w [ inl a ↦ near-below a | inr a ↦ near-above a ], λ (e : apart (p * u) n ≡ apart (r * u) n). inr even)
-    where
-      near-below : p * u ≡ q * u → apart (p * u) n ≤ apart (r * u) n
-      near-below a = elim (beside u q r) [ inl b ↦ omega arith | inr b ↦ omega arith ]
+  -- a tie: both neighbours of n are as near, and one of them is even
+  tie-below : rest * 2 ≡ u → q % 2 ≡ 0 → Least n u r q
+  tie-below h even = elim (beside u q r) [
+    | inl b ↦ (omega arith, λ (e : apart (q * u) n ≡ apart (r * u) n). inl (same q (omega arith)))
+    | inr b ↦ (omega arith, λ (e : apart (q * u) n ≡ apart (r * u) n). inr (even, let is : r ≡ suc q = same (suc q) (omega (arith, next)) in omega arith))
+  ]
 
-      near-above : p * u ≡ q * u + u → apart (p * u) n ≤ apart (r * u) n
-      near-above a = elim (beside u q r) [ inl b ↦ omega arith | inr b ↦ omega arith ]
+  tie-above : rest * 2 ≡ u → q % 2 ≡ 1 → Least n u r (suc q)
+  tie-above h odd = elim (beside u q r) [
+    | inl b ↦ (
+      omega (arith, next),
+      λ (e : apart (suc q * u) n ≡ apart (r * u) n).
+          inr (omega arith, let is : r ≡ q = same q (omega (arith, next)) in omega arith),
+    )
+    | inr b ↦ (omega (arith, next), λ (e : apart (suc q * u) n ≡ apart (r * u) n). inl (same (suc q) (omega (arith, next))))
+  ]
 
   tie : rest * 2 ≡ u → Least n u r (q + q % 2)
   tie h = elim (eq-zero-or-pos (q % 2)) [
-    | inl z ↦
-        let same : q + q % 2 ≡ q = omega arith in
-        level (q + q % 2) h (omega arith) (inl (ap (λ (p : ℕ). p * u) same))
-    | inr o ↦
-        let next : q + q % 2 ≡ suc q = omega arith in
-        level (q + q % 2) h (omega arith) (inr (ap (λ (p : ℕ). p * u) next ∙ suc-mul q u))
+    | inl z ↦ let is : q + q % 2 ≡ q = omega arith in subst (λ (p : ℕ). Least n u r p) (sym is) (tie-below h z)
+    | inr o ↦ let is : q + q % 2 ≡ suc q = omega arith in subst (λ (p : ℕ). Least n u r p) (sym is) (tie-above h (omega arith))
   ]
 
 pub closest-is-least : (n u r : ℕ) → 0 < u → Least n u r (closest n u)

@@ -1,4 +1,4 @@
--- The pattern of bits of a float that is n units in size: it is the float's own, and it ends in 0 where the digits that n keeps are even.
+-- The pattern of bits of a float that is n units in size: it is the float's own, and it ends as the digits that n keeps.
 use Prim.Native.Nat.{ℕ, suc, _+_, _-_, _*_, _/_, _%_, _^_, _≤_, _<_}
 use native.Mathlib.Nat.{le-refl, le-of-eq, le-antisymm, lt-of-lt-of-le, lt-of-not-le, not-le-of-lt, eq-or-lt-of-le, mul-le-mul-right, mul-assoc, mul-comm, mul-mod-left, mul-div-cancel, pow-suc, pow-succ'}
 use native.Mathlib.Omega.{arith}
@@ -54,10 +54,10 @@ size-gt n j h = lt-of-not-le (λ (g : size n ≤ j). not-le-of-lt (lt-of-lt-of-l
 pow-even : (j : ℕ) → 2 ^ suc j % 2 ≡ 0
 pow-even j = ap (λ (x : ℕ). x % 2) (pow-suc 2 j) ∙ mul-mod-left (2 ^ j) 2
 
--- q·2^k keeps q, or, where q is 2^p, half of it: even, if q is even
-module _ (p q k : ℕ) (two : 2 ≤ p) (even : q % 2 ≡ 0) where
-  below : q < 2 ^ p → (k ≡ 0) ⊎ (2 ^ (p - 1) ≤ q) → q * 2 ^ k / 2 ^ (size (q * 2 ^ k) - p) % 2 ≡ 0
-  below h big = ap (λ (d : ℕ). q * 2 ^ k / 2 ^ d % 2) dropped ∙ ap (λ (x : ℕ). x % 2) (shl-shr q k) ∙ even
+-- q·2^k keeps q, or, where q is 2^p, half of it
+module _ (p q k : ℕ) where
+  kept : q < 2 ^ p → (k ≡ 0) ⊎ (2 ^ (p - 1) ≤ q) → q * 2 ^ k / 2 ^ (size (q * 2 ^ k) - p) ≡ q
+  kept h big = ap (λ (d : ℕ). q * 2 ^ k / 2 ^ d) dropped ∙ shl-shr q k
     where
       at-most : size (q * 2 ^ k) ≤ p + k
       at-most = size-le (q * 2 ^ k) (p + k) (shl-lt p k h)
@@ -74,8 +74,8 @@ module _ (p q k : ℕ) (two : 2 ≤ p) (even : q % 2 ≡ 0) where
       dropped : size (q * 2 ^ k) - p ≡ k
       dropped = elim big [ inl e ↦ none (size (q * 2 ^ k)) e at-most | inr b ↦ exactly (size (q * 2 ^ k)) at-most (at-least b) ]
 
-  carried : q ≡ 2 ^ p → q * 2 ^ k / 2 ^ (size (q * 2 ^ k) - p) % 2 ≡ 0
-  carried e = ap (λ (d : ℕ). q * 2 ^ k / 2 ^ d % 2) dropped ∙ ap (λ (x : ℕ). x / 2 ^ suc k % 2) halved ∙ ap (λ (x : ℕ). x % 2) (shl-shr (2 ^ (p - 1)) (suc k)) ∙ last
+  halved : 2 ≤ p → q ≡ 2 ^ p → q * 2 ^ k / 2 ^ (size (q * 2 ^ k) - p) ≡ 2 ^ (p - 1)
+  halved two e = ap (λ (d : ℕ). q * 2 ^ k / 2 ^ d) dropped ∙ ap (λ (x : ℕ). x / 2 ^ suc k) half ∙ shl-shr (2 ^ (p - 1)) (suc k)
     where
       power : q * 2 ^ k ≡ 2 ^ (p + k)
       power = ap (λ (x : ℕ). x * 2 ^ k) e ∙ sym (pow-add 2 p k)
@@ -92,30 +92,36 @@ module _ (p q k : ℕ) (two : 2 ≤ p) (even : q % 2 ≡ 0) where
       shifted : p + k ≡ p - 1 + suc k
       shifted = omega arith
 
-      halved : q * 2 ^ k ≡ 2 ^ (p - 1) * 2 ^ suc k
-      halved = power ∙ ap (λ (x : ℕ). 2 ^ x) shifted ∙ pow-add 2 (p - 1) (suc k)
+      half : q * 2 ^ k ≡ 2 ^ (p - 1) * 2 ^ suc k
+      half = power ∙ ap (λ (x : ℕ). 2 ^ x) shifted ∙ pow-add 2 (p - 1) (suc k)
 
+  kept-even : 2 ≤ p → q % 2 ≡ 0 → q ≤ 2 ^ p → (k ≡ 0) ⊎ (2 ^ (p - 1) ≤ q) → q * 2 ^ k / 2 ^ (size (q * 2 ^ k) - p) % 2 ≡ 0
+  kept-even two even h big = elim (eq-or-lt-of-le h) [
+    | inl e ↦ ap (λ (x : ℕ). x % 2) (halved two e) ∙ ap (λ (x : ℕ). 2 ^ x % 2) less ∙ pow-even (p - 2)
+    | inr l ↦ ap (λ (x : ℕ). x % 2) (kept l big) ∙ even
+  ]
+    where
       less : p - 1 ≡ suc (p - 2)
       less = omega arith
 
-      last : 2 ^ (p - 1) % 2 ≡ 0
-      last = ap (λ (x : ℕ). 2 ^ x % 2) less ∙ pow-even (p - 2)
-
-  pub kept-even : q ≤ 2 ^ p → (k ≡ 0) ⊎ (2 ^ (p - 1) ≤ q) → q * 2 ^ k / 2 ^ (size (q * 2 ^ k) - p) % 2 ≡ 0
-  kept-even h big = elim (eq-or-lt-of-le h) [ inl e ↦ carried e | inr l ↦ below l big ]
-
 -- sign and exponent stand above the last bit
-ends-as : (f : Format) (t : Bool) (field digits : ℕ) → digits % 2 ≡ 0 → (cond t (top f) 0 + field * hid f + digits) % 2 ≡ 0
-ends-as binary32 true field digits e = omega arith
-ends-as binary32 false field digits e = omega arith
-ends-as binary64 true field digits e = omega arith
-ends-as binary64 false field digits e = omega arith
+ends-as : (f : Format) (t : Bool) (field digits : ℕ) → (cond t (top f) 0 + field * hid f + digits) % 2 ≡ digits % 2
+ends-as binary32 true field digits = omega arith
+ends-as binary32 false field digits = omega arith
+ends-as binary64 true field digits = omega arith
+ends-as binary64 false field digits = omega arith
+
+-- a float of q·2^k units ends as what it keeps
+last-bit : (f : Format) (x : Float) (n : ℕ) → T (finite x) → Units f x n → toBits f x % 2 ≡ n / 2 ^ (size n - prec f) % 2
+last-bit f nan n h e = absurd h
+last-bit f (inf t) n h e = absurd h
+last-bit f (fin t m d) n h e =
+    ap (λ (x : ℕ). x % 2) (bits-in-units f t m d n e) ∙ ends-as f t (size n - prec f) (n / 2 ^ (size n - prec f))
 
 pub ends-in-0 : (f : Format) (x : Float) (q k : ℕ) → 2 ≤ prec f → T (finite x) → Units f x (q * 2 ^ k)
     → q % 2 ≡ 0 → q ≤ 2 ^ prec f → (k ≡ 0) ⊎ (2 ^ (prec f - 1) ≤ q) → toBits f x % 2 ≡ 0
-ends-in-0 f nan q k two h e even le big = absurd h
-ends-in-0 f (inf t) q k two h e even le big = absurd h
-ends-in-0 f (fin t m d) q k two h e even le big =
-    let n = q * 2 ^ k in
-    ap (λ (x : ℕ). x % 2) (bits-in-units f t m d n e)
-    ∙ ends-as f t (size n - prec f) (n / 2 ^ (size n - prec f)) (kept-even (prec f) q k two even le big)
+ends-in-0 f x q k two h e even le big = last-bit f x (q * 2 ^ k) h e ∙ kept-even (prec f) q k two even le big
+
+pub ends-as-digits : (f : Format) (x : Float) (q k : ℕ) → T (finite x) → Units f x (q * 2 ^ k)
+    → q < 2 ^ prec f → (k ≡ 0) ⊎ (2 ^ (prec f - 1) ≤ q) → toBits f x % 2 ≡ q % 2
+ends-as-digits f x q k h e lt big = last-bit f x (q * 2 ^ k) h e ∙ ap (λ (z : ℕ). z % 2) (kept (prec f) q k lt big)

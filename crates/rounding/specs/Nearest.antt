@@ -8,7 +8,7 @@ use mathlib.Core.Logic.{_⊎_}
 use lib.Dec.{T}
 use lib.Ieee.{Float, nan, inf, fin, Format, fits, toBits, up, down}
 use lib.Ieee.Scale.{finite}
-use lib.Ieee.Positive.{den}
+use lib.Ieee.Positive.{num, den}
 
 -- how far two whole numbers are apart
 abbrev pub apart : ℕ → ℕ → ℕ
@@ -28,3 +28,8 @@ pub record IsNearest (f : Format) (x : Float) (s : Bool) (a c : ℕ) : Type 0 wh
   pub is-float : T (fits f x)
   pub none-nearer : (y : Float) → T (finite y) → T (fits f y) → off x s a c * den y ≤ off y s a c * den x
   pub tie-to-even : (y : Float) → T (finite y) → T (fits f y) → off x s a c * den y ≡ off y s a c * den x → (y ≡ x) ⊎ (toBits f x % 2 ≡ 0)
+
+-- and it is the only one, but that a number which becomes zero has both zeros
+pub record TheNearest (f : Format) (x : Float) (s : Bool) (a c : ℕ) : Type 0 where
+  pub is : IsNearest f x s a c
+  pub no-other : (y : Float) → IsNearest f y s a c → (y ≡ x) ⊎ ((num y ≡ 0) × (num x ≡ 0))

@@ -15,7 +15,7 @@ use lib.Ieee.Exact.{HasValue, odd-sign}
 use lib.Ieee.Nearest.{closest}
 use lib.Ieee.Scale.{finite}
 use Rattle.answer.specs.Outcome.{Outcome, answer, refuse, need}
-use Rattle.rounding.specs.Nearest.{apart, IsNearest}
+use Rattle.rounding.specs.Nearest.{apart, TheNearest}
 use Rattle.rounding.proofs.Law.{round-is-nearest}
 use Rattle.vax.specs.Fields.{wordAt, signOf, negative, exponent, fractionD, mantissaD}
 use Rattle.vax.specs.Numbers.{zeroFloat, nearestD, droppedD, reading, vaxD, vaxDDropped}
@@ -63,8 +63,8 @@ of-zero e =
     let none : 0 ≡ 0 * 2 ^ e = sym (zero-mul (2 ^ e)) in
     record {
       nearest =
-          subst (λ (a : ℕ). IsNearest binary64 zeroFloat false a (2 ^ 184)) none
-          (subst (λ (x : Float). IsNearest binary64 x false 0 (2 ^ 184)) zero-rounded
+          subst (λ (a : ℕ). TheNearest binary64 zeroFloat false a (2 ^ 184)) none
+          (subst (λ (x : Float). TheNearest binary64 x false 0 (2 ^ 184)) zero-rounded
           (round-is-nearest binary64 false 0 (2 ^ 184) (pow-pos 184) (subst (λ (x : Float). T (finite x)) (sym zero-rounded) tt)));
       places = 0;
       value = (refl, zero-mul (2 ^ 184) ∙ ap (λ (n : ℕ). n * 1) none);

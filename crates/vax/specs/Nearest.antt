@@ -10,7 +10,7 @@ use lib.Dec.{eqb}
 use lib.Ieee.{Float, binary64, toBits}
 use lib.Ieee.Exact.{HasValue}
 use Rattle.answer.specs.Outcome.{Outcome, answer, refuse}
-use Rattle.rounding.specs.Nearest.{apart, IsNearest}
+use Rattle.rounding.specs.Nearest.{apart, TheNearest}
 use Rattle.vax.specs.Fields.{negative, exponent, mantissaD}
 use Rattle.vax.specs.Numbers.{vaxD, vaxDDropped}
 
@@ -18,11 +18,11 @@ use Rattle.vax.specs.Numbers.{vaxD, vaxDDropped}
 abbrev pub lastPlaces : List ℕ → ℕ
 lastPlaces s = cond (eqb (exponent s) 0) 0 (mantissaD s)
 
--- a float x for the number of that sign and of m last places with the exponent e: it is the nearest one; "the error is at most 4
--- units of D's own last place"; "also where rounding carries into the next power of two", which mantissas from 2^56 − 4 on do, 56
--- ones among them: they become 2^56
+-- a float x for the number of that sign and of m last places with the exponent e: it is the nearest one, and no other is; "the error is
+-- at most 4 units of D's own last place"; "also where rounding carries into the next power of two", which mantissas from 2^56 − 4 on
+-- do, 56 ones among them: they become 2^56
 pub record ToNearest (x : Float) (sign : Bool) (m e : ℕ) : Type 0 where
-  pub nearest : IsNearest binary64 x sign (m * 2 ^ e) (2 ^ 184)
+  pub nearest : TheNearest binary64 x sign (m * 2 ^ e) (2 ^ 184)
   pub places : ℕ
   pub value : HasValue x sign (places * 2 ^ e) (2 ^ 184)
   pub error : apart places m ≤ 4
