@@ -1,14 +1,14 @@
--- The cases of `byExponent` and `reading`, as equations from what a test showed, and where a refusal stands.
+-- The cases of `byExponent` and `reading`, as equations from what a test showed; what is answered; where a refusal stands.
 use Prim.Native.Nat.{ℕ, _≤_, _<_}
 use native.Mathlib.Omega.{arith}
-use mathlib.Core.Path.{_≡_}
+use mathlib.Core.Path.{_≡_, sym, subst}
 use mathlib.Core.Bool.{Bool, true, false, not, _&&_, cond}
 use mathlib.Core.List.{List}
 use lib.ListN.{length}
 use lib.Dec.{leb, eqb}
 use lib.Ieee.{Float}
 use borrow.Author.Tests.{le-leb, lt-leb, eq-eqb, ne-eqb}
-use Rattle.answer.specs.Outcome.{answer, refuse, need}
+use Rattle.answer.specs.Outcome.{Outcome, answer, refuse, need}
 use Rattle.vax.specs.Fields.{signOf, negative, exponent}
 use Rattle.vax.specs.Numbers.{zeroFloat, byExponent, reading, nearestD, vaxD}
 
@@ -39,6 +39,29 @@ module _ (x : Float) (s : List ℕ) where
       go false number e = cc
       go true false e = cc
       go true true e = let z : _≡_ {A = ℕ} 0 1 = cc in absurd (omega arith)
+
+-- what holds of a number's float, and of zero, holds of the float that is answered
+same-answer : (x y : Float) → answer x ≡ answer y → x ≡ y
+same-answer x y e = cc
+
+pub never : {X : Type 0} (n p : ℕ) (y : Float) → refuse n p ≡ answer y → X
+never n p y e = let z : _≡_ {A = ℕ} 0 1 = cc in absurd (omega arith)
+
+pub reading-has : (P : Float → Bool → ℕ → Type 0) (size : ℕ) (x : Float) (s : List ℕ) (m : ℕ) → P x (negative s) m → P zeroFloat false 0
+    → (y : Float) → reading size x s ≡ answer y → P y (negative s) (cond (eqb (exponent s) 0) 0 m)
+reading-has P size x s m has none = go (leb size (length s)) (negative s) (eqb (exponent s) 0) has
+  where
+    go : (long sign zero : Bool) → P x sign m → (y : Float)
+        → need long 1 (need (not (sign && zero)) 9 (answer (cond zero zeroFloat x))) ≡ answer y → P y sign (cond zero 0 m)
+    go false sign zero v y e = never 1 0 y e
+    go true true true v y e = never 9 0 y e
+    go true true false v y e = subst (λ (z : Float). P z true m) (same-answer x y e) v
+    go true false true v y e = subst (λ (z : Float). P z false 0) (same-answer zeroFloat y e) none
+    go true false false v y e = subst (λ (z : Float). P z false m) (same-answer x y e) v
+
+-- both clauses of a promise, from the first
+pub both-clauses : (Q : Outcome Float → Type 0) (w : Outcome Float) → Q w → (o : Outcome Float) → o ≡ w → (o ≡ w) × Q o
+both-clauses Q w h o e = (e, subst Q (sym e) h)
 
 -- every refusal of a D number stands at its first byte
 pub vaxD-refused-at-0 : (s : List ℕ) (n p : ℕ) → vaxD s ≡ refuse n p → p ≡ 0

@@ -8,7 +8,7 @@ use mathlib.Core.List.{List}
 use lib.ListN.{length}
 use lib.Ieee.{Float, odd}
 use lib.Ieee.Nearest.{closest}
-use Rattle.vax.specs.Fields.{signOf, negative, exponent, fractionF, fractionD, mantissaF, mantissaD}
+use Rattle.vax.specs.Fields.{signOf, negative, exponent, fractionD, mantissaF, mantissaD}
 use Rattle.vax.specs.Numbers.{byExponent, exactF, nearestD, droppedD, vaxF, vaxD, vaxDDropped}
 use Rattle.vax.specs.Private.{patterned, belowSignF, belowSignD, BitsF, BitsD}
 use Rattle.vax.proofs.Scaled.{odd-shifted}

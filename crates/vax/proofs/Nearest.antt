@@ -14,18 +14,19 @@ use lib.Ieee.{Float, nan, inf, fin, binary64, nearest, odd, round, toBits}
 use lib.Ieee.Exact.{HasValue, odd-sign}
 use lib.Ieee.Nearest.{closest}
 use lib.Ieee.Scale.{finite}
-use Rattle.answer.specs.Outcome.{Outcome, answer, refuse, need}
-use Rattle.rounding.specs.Nearest.{apart, TheNearest}
+use Rattle.answer.specs.Outcome.{answer, need}
+use Rattle.rounding.specs.Nearest.{TheNearest}
 use Rattle.rounding.proofs.Law.{round-is-nearest}
-use Rattle.vax.specs.Fields.{wordAt, signOf, negative, exponent, fractionD, mantissaD}
-use Rattle.vax.specs.Numbers.{zeroFloat, nearestD, droppedD, reading, vaxD, vaxDDropped}
+use Rattle.vax.specs.Fields.{signOf, negative, exponent, fractionD, mantissaD}
+use Rattle.vax.specs.Numbers.{zeroFloat, nearestD, droppedD, vaxD}
 use Rattle.vax.specs.Private.{patterned, belowSignD}
 use Rattle.vax.specs.Nearest.{ToNearest, NearestD, OneStep, OneStepD}
 use Rattle.vax.proofs.Scaled.{odd-shifted}
 use Rattle.vax.proofs.Patterns.{written}
 use Rattle.vax.proofs.Rounded.{eighth-is, rounded}
 use Rattle.vax.proofs.Mantissas.{to-nearest, three-fewer}
-use Rattle.vax.proofs.Exact.{same-answer, never}
+use Rattle.vax.proofs.Cases.{reading-has}
+use Rattle.vax.proofs.Exact.{zero-value}
 
 -- ---- one number
 finite-value : (x : Float) (s : Bool) (a c : ℕ) → HasValue x s a c → T (finite x)
@@ -67,28 +68,16 @@ of-zero e =
           (subst (λ (x : Float). TheNearest binary64 x false 0 (2 ^ 184)) zero-rounded
           (round-is-nearest binary64 false 0 (2 ^ 184) (pow-pos 184) (subst (λ (x : Float). T (finite x)) (sym zero-rounded) tt)));
       places = 0;
-      value = (refl, zero-mul (2 ^ 184) ∙ ap (λ (n : ℕ). n * 1) none);
+      value = zero-value e 184;
       error = omega arith;
       carry = λ (h : 2 ^ 56 ≤ 0 + 4). absurd (omega arith);
     }
 
--- ---- all that a call may find
+-- ---- what a call answers
 pub vaxD-nearest : (s : List ℕ) → fractionD s < 2 ^ 55 → NearestD s (vaxD s)
 vaxD-nearest s small =
-    go (leb 8 (length s)) (negative s) (eqb (exponent s) 0) (of-mantissa (negative s) (mantissaD s) (exponent s) (omega arith) (omega arith) (omega arith))
-  where
-    go : (long sign zero : Bool) → ToNearest (nearestD s) sign (mantissaD s) (exponent s) → (y : Float)
-        → need long 1 (need (not (sign && zero)) 9 (answer (cond zero zeroFloat (nearestD s)))) ≡ answer y
-        → ToNearest y sign (cond zero 0 (mantissaD s)) (exponent s)
-    go false sign zero v y e = never 1 0 y e
-    go true true true v y e = never 9 0 y e
-    go true true false v y e = subst (λ (z : Float). ToNearest z true (mantissaD s) (exponent s)) (same-answer (nearestD s) y e) v
-    go true false true v y e = subst (λ (z : Float). ToNearest z false 0 (exponent s)) (same-answer zeroFloat y e) (of-zero (exponent s))
-    go true false false v y e = subst (λ (z : Float). ToNearest z false (mantissaD s) (exponent s)) (same-answer (nearestD s) y e) v
-
--- what equals the definition's outcome is the nearest: both clauses of the promise
-pub as-nearest : (s : List ℕ) → fractionD s < 2 ^ 55 → (o : Outcome Float) → o ≡ vaxD s → (o ≡ vaxD s) × NearestD s o
-as-nearest s small o is = (is, subst (λ (u : Outcome Float). NearestD s u) (sym is) (vaxD-nearest s small))
+    reading-has (λ (y : Float) (sign : Bool) (m : ℕ). ToNearest y sign m (exponent s)) 8 (nearestD s) s (mantissaD s)
+    (of-mantissa (negative s) (mantissaD s) (exponent s) (omega arith) (omega arith) (omega arith)) (of-zero (exponent s))
 
 -- ---- the two forms
 module _ (s : List ℕ) (bytes : (i : ℕ) → getD s i 0 < 256) where

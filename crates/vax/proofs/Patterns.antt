@@ -3,11 +3,11 @@
 use Prim.Native.Nat.{ℕ, suc, _+_, _-_, _*_, _/_, _%_, _^_, _≤_, _<_}
 use native.Mathlib.Nat.{eq-or-lt-of-le}
 use native.Mathlib.Omega.{arith}
-use mathlib.Core.Path.{_≡_, _∙_, refl, sym, ap, subst}
+use mathlib.Core.Path.{_≡_, _∙_, sym, ap, subst}
 use mathlib.Core.Logic.{inl, inr}
 use mathlib.Core.Bool.{Bool, not}
 use lib.Dec.{T, leb, eqb, lit<}
-use lib.Ieee.{Float, binary64, odd, ofFields, ofBits, toBits, nanBits, isNan}
+use lib.Ieee.{binary64, odd, ofFields, ofBits, toBits, nanBits}
 use lib.Ieee.Bits.{nanBits-above, nanBits-is, toBits-ofBits}
 use borrow.Author.Tests.{le-leb, lt-leb, eq-eqb, ne-eqb, le-ltb}
 use Rattle.vax.proofs.Scaled.{odd-raised, odd-shifted, odd-digit}

@@ -1,13 +1,13 @@
 -- ±m·2^e / 2^184, of a mantissa m of 56 digits, rounded: the float of the nearest eighth of m, whose last place is 2^(e−181). The rounding
 -- works in units of 2^(−1074), of which the number has e + 946 digits; it drops e + 893 of them, so that 53 are left.
-use Prim.Native.Nat.{ℕ, suc, _+_, _-_, _*_, _/_, _%_, _^_, _≤_, _<_, compare, Ordering, Ordering·lt, Ordering·eq, Ordering·gt}
+use Prim.Native.Nat.{ℕ, _+_, _-_, _*_, _/_, _%_, _^_, _≤_, _<_, compare, Ordering, Ordering·lt, Ordering·eq, Ordering·gt}
 use native.Mathlib.Nat.{lt-of-lt-of-le, mul-assoc, mul-pos, mul-le-mul-right, mul-div-cancel}
 use native.Mathlib.Omega.{arith}
 use mathlib.Core.Path.{_≡_, _∙_, sym, ap, subst}
 use mathlib.Core.Bool.{Bool}
 use lib.Dec.{lit<}
 use lib.Pow.{pow-add, pow-pos, pow-mono, shl-lt}
-use lib.Ieee.{Float, binary64, size, nearest, odd, units, round}
+use lib.Ieee.{binary64, size, nearest, odd, units, round}
 use lib.Ieee.Digits.{size-le}
 use lib.Ieee.Fits.{round-is}
 use lib.Ieee.Nearest.{closest, closest-same}

@@ -4,12 +4,12 @@ use mathlib.Core.Path.{_∙_, sym, ap}
 use denote.Ref.{now}
 use borrow.Author.Needs.{needs}
 use Rattle.vax.specs.Decoded.{decoded}
-use Rattle.vax.specs.Numbers.{byExponent, nearestD}
+use Rattle.vax.specs.Numbers.{byExponent, nearestD, vaxD}
+use Rattle.vax.specs.Nearest.{NearestD}
 use Rattle.vax.specs.Private.{patterned}
-use Rattle.vax.proofs.Cases.{too-short}
+use Rattle.vax.proofs.Cases.{too-short, never, both-clauses}
 use Rattle.vax.proofs.Mantissas.{from-D}
-use Rattle.vax.proofs.Exact.{never}
-use Rattle.vax.proofs.Nearest.{as-nearest}
+use Rattle.vax.proofs.Nearest.{vaxD-nearest}
 use Rattle.vax.proofs.vax_d.Statement.{statement}
 use Rattle.vax.proofs.vax_d.Tie as tie
 
@@ -32,7 +32,7 @@ returns-2 c =
     let long = c .before .before .before in
     let bits = c .before .before .bits-d in
     let s = now (long .before .before .args .bytes) in
-    as-nearest s (bits .ensures .1 .1) (decoded (c .number .result))
+    both-clauses (NearestD s) (vaxD s) (vaxD-nearest s (bits .ensures .1 .1)) (decoded (c .number .result))
     (c .number .ensures
     ∙ ap (λ (q : ℕ). byExponent (patterned q s) s) (c .before .nearest-eighth .ensures .0)
     ∙ from-D s (bits .result) (bits .ensures .0) (bits .ensures .1) (long .if1 .left))

@@ -1,30 +1,23 @@
 -- `vax::vax_d_dropped` meets its contract: `number` answers for the bits less three, which is the definition's float.
 use Prim.Native.Nat.{ℕ}
-use mathlib.Core.Path.{_≡_, _∙_, sym, ap}
-use mathlib.Core.List.{List}
-use lib.Ieee.{Float}
+use mathlib.Core.Path.{_∙_, sym, ap}
 use denote.Ref.{now}
 use borrow.Author.Needs.{needs}
-use Rattle.answer.specs.Outcome.{Outcome, refuse}
+use Rattle.answer.specs.Outcome.{refuse}
 use Rattle.vax.specs.Decoded.{decoded}
-use Rattle.vax.specs.Fields.{droppedMantissaD}
 use Rattle.vax.specs.Numbers.{byExponent, droppedD, vaxDDropped}
 use Rattle.vax.specs.Private.{patterned}
 use Rattle.vax.specs.Exact.{ExactDroppedD}
-use Rattle.vax.proofs.Cases.{too-short}
+use Rattle.vax.proofs.Cases.{too-short, both-clauses}
 use Rattle.vax.proofs.Mantissas.{from-D-dropped}
-use Rattle.vax.proofs.Exact.{vaxDDropped-exact, as-defined}
+use Rattle.vax.proofs.Exact.{vaxDDropped-exact}
 use Rattle.vax.proofs.vax_d_dropped.Statement.{statement}
 use Rattle.vax.proofs.vax_d_dropped.Tie as tie
-
--- both clauses, from the first
-meets : (s : List ℕ) (o : Outcome Float) → o ≡ vaxDDropped s → (o ≡ vaxDDropped s) × ExactDroppedD s o
-meets s = as-defined s (droppedMantissaD s) 184 (vaxDDropped s) (vaxDDropped-exact s)
 
 returns : tie.Need-returns
 returns c =
     let s = now (c .before .before .args .bytes) in
-    meets s (refuse 1 0) (sym (too-short (droppedD s) s 8 (c .if1 .taken)))
+    both-clauses (ExactDroppedD s) (vaxDDropped s) (vaxDDropped-exact s) (refuse 1 0) (sym (too-short (droppedD s) s 8 (c .if1 .taken)))
 
 bits-d-requires : tie.Need-bits-d-requires
 bits-d-requires c κs = search needs
@@ -40,7 +33,7 @@ returns-2 c =
     let long = c .before .before .before in
     let bits = c .before .before .bits-d in
     let s = now (long .before .before .args .bytes) in
-    meets s (decoded (c .number .result))
+    both-clauses (ExactDroppedD s) (vaxDDropped s) (vaxDDropped-exact s) (decoded (c .number .result))
     (c .number .ensures
     ∙ ap (λ (q : ℕ). byExponent (patterned q s) s) (c .before .dropped-eighth .ensures)
     ∙ from-D-dropped s (bits .result) (bits .ensures .0) (bits .ensures .1) (long .if1 .left))

@@ -1,29 +1,21 @@
 -- `vax::vax_f` meets its contract: `number` answers for the bits with 29 zeros more, which is the definition's float.
-use Prim.Native.Nat.{ℕ}
-use mathlib.Core.Path.{_≡_, _∙_, sym}
-use mathlib.Core.List.{List}
-use lib.Ieee.{Float}
+use mathlib.Core.Path.{_∙_, sym}
 use denote.Ref.{now}
 use borrow.Author.Needs.{needs}
-use Rattle.answer.specs.Outcome.{Outcome, refuse}
+use Rattle.answer.specs.Outcome.{refuse}
 use Rattle.vax.specs.Decoded.{decoded}
-use Rattle.vax.specs.Fields.{mantissaF}
 use Rattle.vax.specs.Numbers.{exactF, vaxF}
 use Rattle.vax.specs.Exact.{ExactF}
-use Rattle.vax.proofs.Cases.{too-short}
+use Rattle.vax.proofs.Cases.{too-short, both-clauses}
 use Rattle.vax.proofs.Mantissas.{from-F}
-use Rattle.vax.proofs.Exact.{vaxF-exact, as-defined}
+use Rattle.vax.proofs.Exact.{vaxF-exact}
 use Rattle.vax.proofs.vax_f.Statement.{statement}
 use Rattle.vax.proofs.vax_f.Tie as tie
-
--- both clauses, from the first
-meets : (s : List ℕ) (o : Outcome Float) → o ≡ vaxF s → (o ≡ vaxF s) × ExactF s o
-meets s = as-defined s (mantissaF s) 152 (vaxF s) (vaxF-exact s)
 
 returns : tie.Need-returns
 returns c =
     let s = now (c .before .before .args .bytes) in
-    meets s (refuse 1 0) (sym (too-short (exactF s) s 4 (c .if1 .taken)))
+    both-clauses (ExactF s) (vaxF s) (vaxF-exact s) (refuse 1 0) (sym (too-short (exactF s) s 4 (c .if1 .taken)))
 
 bits-f-requires : tie.Need-bits-f-requires
 bits-f-requires c κs = search needs
@@ -39,7 +31,7 @@ returns-2 c =
     let long = c .before .before in
     let bits = c .before .bits-f in
     let s = now (long .before .before .args .bytes) in
-    meets s (decoded (c .number .result))
+    both-clauses (ExactF s) (vaxF s) (vaxF-exact s) (decoded (c .number .result))
     (c .number .ensures ∙ from-F s (bits .result) (bits .ensures .0) (bits .ensures .1) (long .if1 .left))
 
 pub vax-f-spec : {M : Type 1} → statement M
