@@ -15,7 +15,7 @@ use lib.Ieee.Bits.{ofBits-toBits}
 use lib.Ieee.Scale.{finite}
 use Rattle.rounding.proofs.Floats.{Units, alike}
 
-bits-in-units : (f : Format) (t : Bool) (m : ℕ) (e : ℤ) (n : ℕ) → Units f (fin t m e) n
+pub bits-in-units : (f : Format) (t : Bool) (m : ℕ) (e : ℤ) (n : ℕ) → Units f (fin t m e) n
     → toBits f (fin t m e) ≡ cond t (top f) 0 + (size n - prec f) * hid f + n / 2 ^ (size n - prec f)
 unfolding toBits
 bits-in-units f t m e n h =

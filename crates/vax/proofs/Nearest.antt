@@ -1,5 +1,5 @@
 -- The D number's float over whole numbers: it is the nearest float, it is at most 4 last places off, a carry included, and the dropped
--- form's float is the same or one step nearer to zero.
+-- form's float is the same or the next one towards zero.
 use Prim.Native.Nat.{ℕ, suc, _+_, _-_, _*_, _/_, _%_, _^_, _≤_, _<_, compare, Ordering, Ordering·lt, Ordering·eq, Ordering·gt}
 use native.Mathlib.Nat.{eq-zero-or-pos, zero-mul}
 use native.Mathlib.Omega.{arith}
@@ -10,14 +10,16 @@ use mathlib.Core.List.{List}
 use lib.ListN.{length, getD}
 use lib.Dec.{T, leb, eqb}
 use lib.Pow.{pow-pos}
-use lib.Ieee.{Float, nan, inf, fin, binary64, nearest, odd, round, toBits}
+use lib.Ieee.{Float, nan, inf, fin, binary64, nearest, odd, round, fits, toBits}
 use lib.Ieee.Exact.{HasValue, odd-sign}
 use lib.Ieee.Nearest.{closest}
+use lib.Ieee.Bits.{ofBits-fits}
 use lib.Ieee.Scale.{finite}
 use Rattle.answer.specs.Outcome.{answer, need}
-use Rattle.rounding.specs.Nearest.{TheNearest}
+use Rattle.rounding.specs.Nearest.{TheNearest, signIn, NextToZero}
 use Rattle.rounding.proofs.Law.{round-is-nearest}
-use Rattle.vax.specs.Fields.{signOf, negative, exponent, fractionD, mantissaD}
+use Rattle.rounding.proofs.Steps.{follows}
+use Rattle.vax.specs.Fields.{signOf, negative, exponent, fractionD, mantissaD, droppedMantissaD}
 use Rattle.vax.specs.Numbers.{zeroFloat, nearestD, droppedD, vaxD}
 use Rattle.vax.specs.Private.{patterned, belowSignD}
 use Rattle.vax.specs.Nearest.{ToNearest, NearestD, OneStep, OneStepD}
@@ -33,6 +35,11 @@ finite-value : (x : Float) (s : Bool) (a c : ℕ) → HasValue x s a c → T (fi
 finite-value nan s a c v = absurd v
 finite-value (inf t) s a c v = absurd v
 finite-value (fin t m e) s a c v = tt
+
+sign-value : (x : Float) (s : Bool) (a c : ℕ) → HasValue x s a c → signIn x ≡ s
+sign-value nan s a c v = absurd v
+sign-value (inf t) s a c v = absurd v
+sign-value (fin t m e) s a c v = v .0
 
 -- the last of the mantissas become the next power of two
 carries : (m : ℕ) → m < 2 ^ 56 → 2 ^ 56 ≤ m + 4 → closest m 8 * 8 ≡ 2 ^ 56
@@ -105,18 +112,32 @@ module _ (s : List ℕ) (bytes : (i : ℕ) → getD s i 0 < 256) where
   own-bits : (size : ℕ) → size ≤ 2 ^ 60 → toBits binary64 (patterned size s) ≡ bits size
   own-bits size h = written (bits size) (omega (arith, one-bit)) (omega arith)
 
-  nearest-bits : toBits binary64 (nearestD s) ≡ bits (closest m 8)
-  nearest-bits =
-      ap (λ (x : Float). toBits binary64 x) (sym (to-nearest s (one-bit, small)))
+  nearest-is : patterned (closest m 8) s ≡ nearestD s
+  nearest-is = to-nearest s (one-bit, small)
+
+  dropped-is : patterned (m / 8) s ≡ droppedD s
+  dropped-is = three-fewer s (one-bit, small)
+
+  -- a float of the sign s and of any size
+  float : (x : Float) (size a : ℕ) → patterned size s ≡ x → HasValue x (negative s) a (2 ^ 184)
+      → T (finite x) × T (fits binary64 x) × (signIn x ≡ negative s)
+  float x size a e v =
+      (finite-value x (negative s) a (2 ^ 184) v, subst (λ (y : Float). T (fits binary64 y)) e (ofBits-fits binary64 (bits size)), sign-value x (negative s) a (2 ^ 184) v)
+
+  up-one : closest m 8 ≡ suc (m / 8) → NextToZero binary64 (droppedD s) (nearestD s)
+  up-one e =
+      let x = float (droppedD s) (m / 8) (droppedMantissaD s * 2 ^ exponent s) dropped-is (odd-sign 56 (negative s) (droppedMantissaD s) (exponent s) 184) in
+      let near = of-mantissa (negative s) (mantissaD s) (exponent s) (omega arith) (omega (arith, small)) (omega arith) in
+      let y = float (nearestD s) (closest m 8) (near .places * 2 ^ exponent s) nearest-is (near .value) in
+      follows binary64 (droppedD s) (nearestD s) (x .0) (y .0) (x .1) (y .1) (x .2 ∙ sym (y .2))
+      (ap (λ (z : Float). toBits binary64 z) (sym nearest-is)
       ∙ own-bits (closest m 8) (omega (arith, small, eighth-is m))
-
-  dropped-bits : toBits binary64 (droppedD s) ≡ bits (m / 8)
-  dropped-bits =
-      ap (λ (x : Float). toBits binary64 x) (sym (three-fewer s (one-bit, small)))
-      ∙ own-bits (m / 8) (omega (arith, small))
-
-  one-more : (q d : ℕ) → (q ≡ d) ⊎ (q ≡ suc d) → (bits q ≡ bits d) ⊎ (bits q ≡ suc (bits d))
-  one-more q d c = elim c [ inl e ↦ inl (ap bits e) | inr e ↦ inr (omega arith) ]
+      ∙ ap bits e
+      ∙ one-more (m / 8)
+      ∙ ap suc (sym (own-bits (m / 8) (omega (arith, small))) ∙ ap (λ (z : Float). toBits binary64 z) dropped-is))
+    where
+      one-more : (q : ℕ) → bits (suc q) ≡ suc (bits q)
+      one-more q = omega arith
 
   eighths : (closest m 8 ≡ m / 8) ⊎ (closest m 8 ≡ suc (m / 8))
   eighths = go (compare (m % 8 * 2) 8)
@@ -127,9 +148,9 @@ module _ (s : List ℕ) (bytes : (i : ℕ) → getD s i 0 < 256) where
       go Ordering·eq = elim (eq-zero-or-pos (m / 8 % 2)) [ inl z ↦ inl (omega arith) | inr o ↦ inr (omega arith) ]
 
   step : OneStep (answer (droppedD s)) (answer (nearestD s))
-  step = elim (one-more (closest m 8) (m / 8) eighths) [
-    | inl e ↦ inl (nearest-bits ∙ e ∙ sym dropped-bits)
-    | inr e ↦ inr (nearest-bits ∙ e ∙ ap suc (sym dropped-bits))
+  step = elim eighths [
+    | inl e ↦ inl (sym dropped-is ∙ ap (λ (q : ℕ). patterned q s) (sym e) ∙ nearest-is)
+    | inr e ↦ inr (up-one e)
   ]
 
 pub one-step : (s : List ℕ) → OneStepD s

@@ -1,16 +1,16 @@
 -- Document 02, item 5, over whole numbers: how far a D number's float is from the number, and how far the two forms are from one
 -- another. D's last place is 2^(e−184), so that a number is as many last places as its mantissa says.
-use Prim.Native.Nat.{ℕ, suc, _+_, _*_, _^_, _≤_, _<_}
+use Prim.Native.Nat.{ℕ, _+_, _*_, _^_, _≤_, _<_}
 use mathlib.Core.Bool.{Bool, cond}
 use mathlib.Core.List.{List}
 use mathlib.Core.Logic.{_⊎_}
 use mathlib.Core.Path.{_≡_}
 use lib.ListN.{getD}
 use lib.Dec.{eqb}
-use lib.Ieee.{Float, binary64, toBits}
+use lib.Ieee.{Float, binary64}
 use lib.Ieee.Exact.{HasValue}
 use Rattle.answer.specs.Outcome.{Outcome, answer, refuse}
-use Rattle.rounding.specs.Nearest.{apart, TheNearest}
+use Rattle.rounding.specs.Nearest.{apart, TheNearest, NextToZero}
 use Rattle.vax.specs.Fields.{negative, exponent, mantissaD}
 use Rattle.vax.specs.Numbers.{vaxD, vaxDDropped}
 
@@ -31,11 +31,10 @@ pub record ToNearest (x : Float) (sign : Bool) (m e : ℕ) : Type 0 where
 abbrev pub NearestD : List ℕ → Outcome Float → Type 0
 NearestD s o = (x : Float) → o ≡ answer x → ToNearest x (negative s) (lastPlaces s) (exponent s)
 
--- "the two never differ by more than one step of the 64-bit float": the patterns of bits are the same, or the second is the first and
--- one more. Patterns count the floats of a sign from zero on, so that the first is then the next float towards zero. Or both are
--- refused alike
+-- "the two never differ by more than one step of the 64-bit float": they are the same, or the first is the next float from the second
+-- towards zero; or both are refused alike
 abbrev pub OneStep : Outcome Float → Outcome Float → Type 0
-OneStep (answer x) (answer y) = (toBits binary64 y ≡ toBits binary64 x) ⊎ (toBits binary64 y ≡ suc (toBits binary64 x))
+OneStep (answer x) (answer y) = (x ≡ y) ⊎ NextToZero binary64 x y
 OneStep (answer x) (refuse n p) = ⊥
 OneStep (refuse n p) (answer y) = ⊥
 OneStep (refuse n p) (refuse m q) = (n ≡ m) × (p ≡ q)
