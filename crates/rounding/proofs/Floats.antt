@@ -13,7 +13,7 @@ use lib.Ieee.{Float, nan, inf, fin, Format, prec, emax, low, up, down, fits}
 use lib.Ieee.Fits.{and-l, and-r}
 use lib.Ieee.Scale.{finite}
 use lib.Ieee.Positive.{num, den}
-use Rattle.rounding.specs.Nearest.{apart, off}
+use Rattle.rounding.specs.Nearest.{apart, signIn, off}
 
 -- ---- in units
 
@@ -105,30 +105,25 @@ abbrev pub away : Format → Bool → ℕ → ℕ → ℕ → ℕ
 away f alike n a c = cond alike (apart (n * c) (a * 2 ^ low f)) (n * c + a * 2 ^ low f)
 
 abbrev pub alike : Float → Bool → Bool
-alike nan s = false
-alike (inf t) s = false
-alike (fin t m e) s = Bool·beq t s
+alike x s = Bool·beq (signIn x) s
 
-pub off-in-units : (f : Format) (x : Float) (s : Bool) (n a c : ℕ) → T (finite x) → Units f x n
-    → off x s a c * 2 ^ low f ≡ away f (alike x s) n a c * den x
-off-in-units f nan s n a c h e = absurd h
-off-in-units f (inf t) s n a c h e = absurd h
-off-in-units f (fin t m d) s n a c h e = go (Bool·beq t s)
+pub off-in-units : (f : Format) (x : Float) (s : Bool) (n a c : ℕ) → Units f x n → off x s a c * 2 ^ low f ≡ away f (alike x s) n a c * den x
+off-in-units f x s n a c e = go (alike x s)
   where
-    left : m * up d * c * 2 ^ low f ≡ n * c * down d
-    left = mul-right-comm (m * up d) c (2 ^ low f) ∙ ap (λ (x : ℕ). x * c) e ∙ mul-right-comm n (down d) c
+    left : num x * c * 2 ^ low f ≡ n * c * den x
+    left = mul-right-comm (num x) c (2 ^ low f) ∙ ap (λ (y : ℕ). y * c) e ∙ mul-right-comm n (den x) c
 
-    right : a * down d * 2 ^ low f ≡ a * 2 ^ low f * down d
-    right = mul-right-comm a (down d) (2 ^ low f)
+    right : a * den x * 2 ^ low f ≡ a * 2 ^ low f * den x
+    right = mul-right-comm a (den x) (2 ^ low f)
 
-    go : (b : Bool) → cond b (apart (m * up d * c) (a * down d)) (m * up d * c + a * down d) * 2 ^ low f ≡ away f b n a c * down d
+    go : (b : Bool) → cond b (apart (num x * c) (a * den x)) (num x * c + a * den x) * 2 ^ low f ≡ away f b n a c * den x
     go true =
-        sym (apart-scaled (m * up d * c) (a * down d) (2 ^ low f))
-        ∙ ap (λ (x : ℕ). apart x (a * down d * 2 ^ low f)) left
-        ∙ ap (λ (x : ℕ). apart (n * c * down d) x) right
-        ∙ apart-scaled (n * c) (a * 2 ^ low f) (down d)
+        sym (apart-scaled (num x * c) (a * den x) (2 ^ low f))
+        ∙ ap (λ (y : ℕ). apart y (a * den x * 2 ^ low f)) left
+        ∙ ap (λ (y : ℕ). apart (n * c * den x) y) right
+        ∙ apart-scaled (n * c) (a * 2 ^ low f) (den x)
     go false =
-        add-mul (m * up d * c) (a * down d) (2 ^ low f)
-        ∙ ap (λ (x : ℕ). x + a * down d * 2 ^ low f) left
-        ∙ ap (λ (x : ℕ). n * c * down d + x) right
-        ∙ sym (add-mul (n * c) (a * 2 ^ low f) (down d))
+        add-mul (num x * c) (a * den x) (2 ^ low f)
+        ∙ ap (λ (y : ℕ). y + a * den x * 2 ^ low f) left
+        ∙ ap (λ (y : ℕ). n * c * den x + y) right
+        ∙ sym (add-mul (n * c) (a * 2 ^ low f) (den x))

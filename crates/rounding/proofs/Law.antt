@@ -183,28 +183,28 @@ module _ (f : Format) (s : Bool) (a c : ℕ) (C : 0 < c) where
     x-scaled : (y : Float) → off x s a c * den y * 2 ^ low f ≡ apart (q * u) n * den x * den y
     x-scaled y =
         mul-right-comm (off x s a c) (den y) (2 ^ low f)
-        ∙ ap (λ (z : ℕ). z * den y) (off-in-units f x s (q * 2 ^ k) a c fine size-is)
+        ∙ ap (λ (z : ℕ). z * den y) (off-in-units f x s (q * 2 ^ k) a c size-is)
         ∙ ap (λ (b : Bool). away f b (q * 2 ^ k) a c * den x * den y) sign-is
         ∙ ap (λ (z : ℕ). apart z n * den x * den y) (in-u q)
 
-    y-scaled : (y : Float) (m : ℕ) → T (finite y) → Units f y m → off y s a c * den x * 2 ^ low f ≡ away f (alike y s) m a c * den x * den y
-    y-scaled y m h e =
+    y-scaled : (y : Float) (m : ℕ) → Units f y m → off y s a c * den x * 2 ^ low f ≡ away f (alike y s) m a c * den x * den y
+    y-scaled y m e =
         mul-right-comm (off y s a c) (den x) (2 ^ low f)
-        ∙ ap (λ (z : ℕ). z * den x) (off-in-units f y s m a c h e)
+        ∙ ap (λ (z : ℕ). z * den x) (off-in-units f y s m a c e)
         ∙ mul-right-comm (away f (alike y s) m a c) (den y) (den x)
 
     nearer : (y : Float) → T (finite y) → T (fits f y) → off x s a c * den y ≤ off y s a c * den x
     nearer y h t =
         let b = beside y h t in
         le-of-mul-le-mul-right
-        (le-trans (le-of-eq (x-scaled y)) (le-trans (mul-le-mul-right (den y) (mul-le-mul-right (den x) (b .2 .0))) (le-of-eq (sym (y-scaled y (b .0) h (b .1))))))
+        (le-trans (le-of-eq (x-scaled y)) (le-trans (mul-le-mul-right (den y) (mul-le-mul-right (den x) (b .2 .0))) (le-of-eq (sym (y-scaled y (b .0) (b .1))))))
         (pow-pos (low f))
 
     level-with : (y : Float) → T (finite y) → T (fits f y) → off x s a c * den y ≡ off y s a c * den x → (y ≡ x) ⊎ ((q % 2 ≡ 0) × Other y)
     level-with y h t e =
         let b = beside y h t in
         let far = away f (alike y s) (b .0) a c in
-        let level : apart (q * u) n * den x * den y ≡ far * den x * den y = sym (x-scaled y) ∙ ap (λ (z : ℕ). z * 2 ^ low f) e ∙ y-scaled y (b .0) h (b .1) in
+        let level : apart (q * u) n * den x * den y ≡ far * den x * den y = sym (x-scaled y) ∙ ap (λ (z : ℕ). z * 2 ^ low f) e ∙ y-scaled y (b .0) (b .1) in
         b .2 .1
         (eq-of-mul-eq-mul-right (den x) (den-pos x) (apart (q * u) n) far (eq-of-mul-eq-mul-right (den y) (den-pos y) (apart (q * u) n * den x) (far * den x) level))
 

@@ -6,7 +6,7 @@ use mathlib.Core.Path.{_≡_}
 use mathlib.Core.Bool.{Bool, false, Bool·beq, cond}
 use mathlib.Core.Logic.{_⊎_}
 use lib.Dec.{T}
-use lib.Ieee.{Float, nan, inf, fin, Format, fits, toBits, up, down}
+use lib.Ieee.{Float, nan, inf, fin, Format, fits, toBits}
 use lib.Ieee.Scale.{finite}
 use lib.Ieee.Positive.{num, den}
 
@@ -14,12 +14,16 @@ use lib.Ieee.Positive.{num, den}
 abbrev pub apart : ℕ → ℕ → ℕ
 apart a b = (a - b) + (b - a)
 
+-- true for a negative float
+abbrev pub signIn : Float → Bool
+signIn nan = false
+signIn (inf s) = s
+signIn (fin s m e) = s
+
 -- how far a finite float is from ±a / c, times c and times the float's own `den`: what the two are apart where the signs are alike, and
--- their sum where they are not; the sign true is a negative number's
+-- their sum where they are not; the sign s is true for a negative number
 abbrev pub off : Float → Bool → ℕ → ℕ → ℕ
-off nan s a c = 0
-off (inf t) s a c = 0
-off (fin t m e) s a c = cond (Bool·beq t s) (apart (m * up e * c) (a * down e)) (m * up e * c + a * down e)
+off x s a c = cond (Bool·beq (signIn x) s) (apart (num x * c) (a * den x)) (num x * c + a * den x)
 
 -- x is the finite float of the format f that is nearest to ±a / c: no other is nearer, and where another is as near, x is the
 -- one that ends in 0
@@ -33,12 +37,6 @@ pub record IsNearest (f : Format) (x : Float) (s : Bool) (a c : ℕ) : Type 0 wh
 pub record TheNearest (f : Format) (x : Float) (s : Bool) (a c : ℕ) : Type 0 where
   pub is : IsNearest f x s a c
   pub no-other : (y : Float) → IsNearest f y s a c → (y ≡ x) ⊎ ((num y ≡ 0) × (num x ≡ 0))
-
--- true for a negative float
-abbrev pub signIn : Float → Bool
-signIn nan = false
-signIn (inf s) = s
-signIn (fin s m e) = s
 
 -- x is the next float from y towards zero: one of the same sign and smaller, with no float's size in between. Their patterns of bits
 -- follow one another
