@@ -1,6 +1,6 @@
 -- VAX F and D numbers as 64-bit floats (document 01, "Numbers"; document 02, item 5). `odd d s q e l` is the float of sign s and size
 -- exactly q·2^e / 2^l, for a q of at most d binary digits, in the one way that a finite float is written. `round f s a c` is the float of
--- the format f that is nearest to a / c in size and has the sign s, a tie going to the even one: `IsNearest` (rounding/specs/Nearest.antt)
+-- the format f that is nearest to a / c in size and has the sign s, a tie going to the even one: `TheNearest` (rounding/specs/Nearest.antt)
 -- says what that means, and `round-is-nearest` (rounding/proofs/Law.antt) that it is so.
 use Prim.Native.Nat.{ℕ, _*_, _^_}
 use mathlib.Core.Bool.{false, not, _&&_, cond}
