@@ -69,7 +69,7 @@ struct RoundedNumber {
     sign: u64,
     exponent: Option<u64>,
     /// The fraction's upper 51 bits.
-    upper: Fraction,
+    upper: Option<u64>,
     /// Its last four: the last one that stays, and the three that do not.
     last: u64,
 }
@@ -881,13 +881,7 @@ impl Generator {
         let exponent = number
             .exponent
             .unwrap_or_else(|| self.random.below(255) + 1);
-        let full = (1 << 51) - 1;
-        let upper = match number.upper {
-            Fraction::Zero => 0,
-            Fraction::LowBits => self.random.between(1, 16) as u64,
-            Fraction::Full => full,
-            Fraction::Any => self.random.draw() & full,
-        };
+        let upper = number.upper.unwrap_or_else(|| self.random.below(1 << 51));
         in_words(
             (((((number.sign << 8) | exponent) << 51) | upper) << 4) | number.last,
             4,
@@ -1043,14 +1037,12 @@ fn in_words(bits: u64, words: u32) -> Vec<u8> {
 /// Everything that a fraction can end in, and at the edges of the exponent and
 /// of the fraction what stands beside a tie and all ones.
 fn rounded_numbers() -> Vec<RoundedNumber> {
-    let any = (0..16).map(|last| (None, Fraction::Any, last));
+    let any = (0..16).map(|last| (None, None, last));
     let at_edges = [1, 2, 128, 254, 255].into_iter().flat_map(|exponent| {
-        [Fraction::Zero, Fraction::Full]
-            .into_iter()
-            .flat_map(move |upper| {
-                [0b0011, 0b0100, 0b0101, 0b1011, 0b1100, 0b1101, 0b1111]
-                    .map(|last| (Some(exponent), upper, last))
-            })
+        [0, (1 << 51) - 1].into_iter().flat_map(move |upper| {
+            [0b0011, 0b0100, 0b0101, 0b1011, 0b1100, 0b1101, 0b1111]
+                .map(|last| (Some(exponent), Some(upper), last))
+        })
     });
     any.chain(at_edges)
         .flat_map(|(exponent, upper, last)| {
