@@ -1,2 +1,3 @@
-// What "the nearest float" means (document 02, item 5), `specs/Nearest.antt`, and the law that the rounding of the floats'
-// arithmetic is it, `proofs/Law.antt`. It has no code of its own.
+// What "the nearest float" and "the next float towards zero" mean (document 02, item 5), `specs/Nearest.antt`; the law that
+// the rounding of the floats' arithmetic gives the nearest, `proofs/Law.antt`; and the law that patterns of bits which
+// follow one another have no float in between, `proofs/Steps.antt`. It has no code of its own.

@@ -594,7 +594,8 @@ pub fn mode(number: u64) -> u64 {
     number.min(8)
 }
 
-/// The bits of a VAX D number: sign, exponent and fraction.
+/// The bits of a VAX D number: sign, exponent and fraction. The three functions below are written out,
+/// since each is slower with its first half in a function that they share.
 fn d_bits(bytes: &[u8]) -> Result<u64, Fault> {
     let bytes: &[u8; 8] = bytes.first_chunk().ok_or((1, 0))?;
     let word = |at| u64::from(u16::from_le_bytes([bytes[at], bytes[at + 1]]));
