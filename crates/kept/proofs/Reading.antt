@@ -1,5 +1,5 @@
--- The reader case by case, in the order of its refusals.
-use Prim.Native.Nat.{ℕ, _-_, _/_, _%_, _≤_, _<_}
+-- Reading case by case, in the order of its refusals, over the kind and over where the entries begin.
+use Prim.Native.Nat.{ℕ, _+_, _-_, _/_, _%_, _≤_, _<_}
 use mathlib.Core.Path.{_≡_}
 use mathlib.Core.Bool.{true, false, _&&_, and-false}
 use mathlib.Core.List.{List}
@@ -10,8 +10,16 @@ use Rattle.answer.specs.Outcome.{answer, refuse}
 use Rattle.answer.specs.Window.{bytesAt}
 use Rattle.answer.proofs.Tests.{both-hold}
 use Rattle.little.specs.LittleEndian.{leNumber}
-use Rattle.kept.specs.Kept.{entriesOf, isKept, readAs, loadKept}
+use Rattle.kept.specs.Kept.{numberAt, entriesOf, isKept, readAs, loadAs}
 use Rattle.kept.proofs.Entries.{length-entries}
+
+-- four bytes that are not all there, and four that are
+module _ (s : List ℕ) (at : ℕ) where
+  pub not-all-there : length s < at + 4 → numberAt s at ≡ 0
+  not-all-there h = simp (lt-leb _ _ h)
+
+  pub all-there : at + 4 ≤ length s → numberAt s at ≡ leNumber (bytesAt s at 4)
+  all-there h = simp (le-leb _ _ h)
 
 module _ (kind first : ℕ) (s : List ℕ) where
   pub too-few-bytes : length s < first → isKept kind first s ≡ false
@@ -48,16 +56,17 @@ accepted kind first s kept =
       whole = eqb-true _ _ whole;
     }
 
-module _ (s : List ℕ) (room : ℕ) where
-  pub not-kept : isKept 1 6 s ≡ false → loadKept s room ≡ refuse 13 0
-  unfolding readAs loadKept
+-- the reader of records of any kind
+module _ (kind first : ℕ) (s : List ℕ) (room : ℕ) where
+  pub not-kept : isKept kind first s ≡ false → loadAs kind first s room ≡ refuse 13 0
+  unfolding readAs loadAs
   not-kept h = simp h
 
-  module _ (kept : isKept 1 6 s ≡ true) where
-    pub no-room : room < (length s - 6) / 4 → loadKept s room ≡ refuse 8 0
-    unfolding readAs loadKept
+  module _ (kept : isKept kind first s ≡ true) where
+    pub no-room : room < (length s - first) / 4 → loadAs kind first s room ≡ refuse 8 0
+    unfolding readAs loadAs
     no-room h = simp (kept, length-entries, lt-leb _ _ h)
 
-    pub loaded : (length s - 6) / 4 ≤ room → loadKept s room ≡ answer (entriesOf ((length s - 6) / 4) (drop 6 s))
-    unfolding readAs loadKept
+    pub loaded : (length s - first) / 4 ≤ room → loadAs kind first s room ≡ answer (entriesOf ((length s - first) / 4) (drop first s))
+    unfolding readAs loadAs
     loaded h = simp (kept, length-entries, le-leb _ _ h)

@@ -13,7 +13,7 @@ use Rattle.answer.specs.Outcome.{answer, need}
 use Rattle.answer.specs.Window.{bytesAt}
 use Rattle.answer.proofs.Outcomes.{passed, answer-injective}
 use Rattle.little.specs.LittleEndian.{le, leNumber, Below}
-use Rattle.kept.specs.Kept.{entryBytes, houseRecord, keptAs, keptForm, entriesOf, keepIndex, isKept, readAs, readKept, loadKept}
+use Rattle.kept.specs.Kept.{entryBytes, houseRecord, keptAs, keptForm, entriesOf, keepIndex, isKept, readAs, readKept, loadAs, loadKept}
 use Rattle.little.proofs.LittleEndian.{number-of-bytes, bytes-of-number, below-in-the-front, below-in-the-rest}
 use Rattle.kept.proofs.Entries.{entries-of-bytes, bytes-of-entries}
 use Rattle.kept.proofs.Reading.{whole-entries-decide, accepted}
@@ -56,17 +56,20 @@ module _ (kind first : ℕ) (s xs : List ℕ) (head : 6 ≤ first) (bytes : Belo
   unfolding readAs
   entries-were-read = passed 0 (isKept kind first s) 13 (answer (entriesOf ((length s - first) / 4) (drop first s))) xs reads
 
+  -- the bytes of the entries are those from where the entries begin
+  pub entries-are-the-rest : entryBytes xs ≡ drop first s
+  entries-are-the-rest =
+      let (kept, is) = entries-were-read in
+      let a = accepted kind first s kept in
+      ap entryBytes (sym (answer-injective is))
+      ∙ bytes-of-entries ((length s - first) / 4) (drop first s) (length-drop first s ∙ omega arith) (below-in-the-rest 256 first s bytes)
+
   -- what follows the kind
   body-again : bytesAt s 6 (first - 6) ++ entryBytes xs ≡ drop 6 s
   body-again =
-      let (kept, is) = entries-were-read in
-      let a = accepted kind first s kept in
-      let entries : entryBytes xs ≡ drop first s =
-      ap entryBytes (sym (answer-injective is))
-      ∙ bytes-of-entries ((length s - first) / 4) (drop first s) (length-drop first s ∙ omega arith) (below-in-the-rest 256 first s bytes) in
       let place : first ≡ 6 + (first - 6) = omega arith in
       ap (λ (t : List ℕ). bytesAt s 6 (first - 6) ++ t)
-      (entries ∙ ap (λ (k : ℕ). drop k s) place ∙ sym (drop-drop (first - 6) 6 s))
+      (entries-are-the-rest ∙ ap (λ (k : ℕ). drop k s) place ∙ sym (drop-drop (first - 6) 6 s))
       ∙ take-append-drop (first - 6) (drop 6 s)
 
   -- a number that was read from w bytes is written as those bytes
@@ -99,7 +102,7 @@ the-only-kept-form bytes xs are-bytes reads = read-is-kept 1 6 bytes xs (omega a
 -- the same of the two calls: what the writer wrote, the reader reads into any list that has room for it
 pub kept-loads : (xs : List ℕ) (room places : ℕ) (w : List ℕ) → Below (2 ^ 32) xs → keepIndex xs room ≡ answer w → length xs ≤ places
     → loadKept w places ≡ answer xs
-unfolding keepIndex loadKept
+unfolding keepIndex loadAs
 kept-loads xs room places w entries e fits =
     let (few, then-room) = passed 0 (leb (length xs) 1073741823) 14 (need (leb (length (keptForm xs)) room) 8 (answer (keptForm xs))) w e in
     let (_, is) = passed 0 (leb (length (keptForm xs)) room) 8 (answer (keptForm xs)) w then-room in

@@ -17,6 +17,15 @@ pub length-kept-as : (kind : ℕ) (between xs : List ℕ) → length (keptAs kin
 unfolding keptAs
 length-kept-as kind between xs = omega (arith, length-append between (entryBytes xs), length-entry-bytes xs)
 
+-- what stands in front of the entries, and then their bytes
+pub in-two-pieces : (kind : ℕ) (between xs : List ℕ) (follows : ℕ) → follows ≡ 2 + (length between + 4 * length xs)
+    → keptAs kind between xs ≡ (le 4 follows ++ (le 2 kind ++ between)) ++ entryBytes xs
+unfolding keptAs
+in-two-pieces kind between xs follows is =
+    let size : 2 + length (between ++ entryBytes xs) ≡ follows =
+    omega (arith, is, length-append between (entryBytes xs), length-entry-bytes xs) in
+    ap (λ (n : ℕ). le 4 n ++ (le 2 kind ++ (between ++ entryBytes xs))) size
+
 -- the theorem on its size: six bytes, and four for each entry
 pub length-kept-form : (xs : List ℕ) → length (keptForm xs) ≡ 6 + 4 * length xs
 length-kept-form xs = omega (arith, length-kept-as 1 [] xs)

@@ -1,8 +1,9 @@
 -- The kept form of an index (document 01, "Kept form": "a four-byte length of all that follows it, a two-byte kind equal
 -- to 1, then four bytes for each entry"; its writer gives 14, then 8, its reader 13, then 8). The house record is written
--- over its kind and over the bytes that stand between the kind and the entries: none in kind 1.
+-- over its kind and over the bytes that stand between the kind and the entries: none in kind 1. Kind 2 is another use of it
+-- (document 02, item 9; crate kept_rows).
 use Prim.Native.Nat.{ℕ, zero, suc, _+_, _-_, _/_, _%_}
-use mathlib.Core.Bool.{Bool, _&&_}
+use mathlib.Core.Bool.{Bool, cond, _&&_}
 use mathlib.Core.List.{List, [], _∷_, _++_}
 use lib.ListN.{length, take, drop}
 use lib.Dec.{leb, eqb}
@@ -27,10 +28,17 @@ keptAs kind between xs = houseRecord kind (between ++ entryBytes xs)
 abbrev pub keptForm : List ℕ → List ℕ
 keptForm xs = keptAs 1 [] xs
 
+-- what is written where there is room for so many numbers; else 8
+abbrev pub inRoom : ℕ → List ℕ → Outcome (List ℕ)
+inRoom room w = need (leb (length w) room) 8 (answer w)
+
 -- what the writer writes into `room` bytes: 14 for more than 1,073,741,823 entries, then 8
 unfoldable pub keepIndex : List ℕ → ℕ → Outcome (List ℕ)
-keepIndex xs room =
-    need (leb (length xs) 1073741823) 14 (need (leb (length (keptForm xs)) room) 8 (answer (keptForm xs)))
+keepIndex xs room = need (leb (length xs) 1073741823) 14 (inRoom room (keptForm xs))
+
+-- the number in the four bytes from a place on; 0 where not all four are there
+abbrev pub numberAt : List ℕ → ℕ → ℕ
+numberAt s at = cond (leb (at + 4) (length s)) (leNumber (bytesAt s at 4)) 0
 
 -- so many entries, from the front of these bytes
 abbrev pub entriesOf : ℕ → List ℕ → List ℕ
@@ -52,6 +60,10 @@ readAs kind first s = need (isKept kind first s) 13 (answer (entriesOf ((length 
 abbrev pub readKept : List ℕ → Outcome (List ℕ)
 readKept s = readAs 1 6 s
 
--- what the reader writes into a list with room for so many numbers: 13, then 8
-unfoldable pub loadKept : List ℕ → ℕ → Outcome (List ℕ)
-loadKept s room = andThen (readKept s) (λ xs. need (leb (length xs) room) 8 (answer xs))
+-- what a reader of records of this kind writes into a list with room for so many numbers: 13, then 8
+unfoldable pub loadAs : ℕ → ℕ → List ℕ → ℕ → Outcome (List ℕ)
+loadAs kind first s room = andThen (readAs kind first s) (inRoom room)
+
+-- the same of kind 1
+abbrev pub loadKept : List ℕ → ℕ → Outcome (List ℕ)
+loadKept s room = loadAs 1 6 s room

@@ -1,6 +1,7 @@
 // The kept form of an index: a list of 32-bit numbers written to bytes, and read back from them.
-// Renders document 01, "Kept form" (a house format). What the numbers stand for, and whether they are
-// the index of some file, is left to the crates above.
+// Renders document 01, "Kept form" (a house format): kind 1, and what records of every kind have in
+// common. Kind 2, what the numbers stand for, and whether they are the index of some file, are left to
+// the crates above.
 use answer::Count;
 use answer::Refusal;
 ghost use mathlib.Core.Path.{_≡_};
@@ -11,7 +12,7 @@ ghost use Rattle.answer.specs.Counted.{counted};
 ghost use Rattle.answer.specs.Filled.{Writes};
 ghost use Rattle.answer.specs.Window.{bytesAt};
 ghost use Rattle.little.specs.LittleEndian.{le, leNumber};
-ghost use Rattle.kept.specs.Kept.{entryBytes, entriesOf, isKept, keepIndex, loadKept};
+ghost use Rattle.kept.specs.Kept.{entryBytes, numberAt, entriesOf, isKept, keepIndex, loadAs, loadKept};
 ghost use Rattle.kept.specs.Private.{putAt};
 
 // Writes a number's lower 16 bits to the two bytes from place `at` on.
@@ -89,12 +90,29 @@ pub fn keep(list: &[u32], out: &mut [u8]) -> Count
     Count::Is(size)
 }
 
-// Whether these bytes are a whole record of this kind, whose entries begin at place `first`.
-fn is_kept(bytes: &[u8], kind: u32, first: usize) -> bool
-    requires { ⌜ 6 ≤ first ⌝ }
-    ensures { λ r. ⌜ r ≡ isKept kind first (now (bytes .entry)) ⌝ }
+// The number in the four bytes from place `at` on; 0 where not all four are there.
+pub fn number_at(bytes: &[u8], at: usize) -> u32
+    ensures { λ r. ⌜ r ≡ numberAt (now (bytes .entry)) at ⌝ }
 {
-    if bytes.len() < first {
+    if bytes.len() < 4 {
+        return 0;
+    }
+    if bytes.len() - 4 < at {
+        return 0;
+    }
+    four_at(bytes, at)
+}
+
+// Whether these bytes are a whole record of this kind, with so many bytes between the kind and the
+// entries.
+pub fn is_record(kind: u32, between: usize, bytes: &[u8]) -> bool
+    ensures { λ r. ⌜ r ≡ isKept kind (6 + between) (now (bytes .entry)) ⌝ }
+{
+    if bytes.len() < 6 {
+        return false;
+    }
+    let body = bytes.len() - 6;
+    if body < between {
         return false;
     }
     let follows = four_at(bytes, 0) as usize;
@@ -105,7 +123,7 @@ fn is_kept(bytes: &[u8], kind: u32, first: usize) -> bool
     if found != kind {
         return false;
     }
-    (bytes.len() - first) % 4 == 0
+    (body - between) % 4 == 0
 }
 
 // Reads so many entries from place `first` on to the front of `list`.
@@ -121,19 +139,29 @@ fn take_entries(bytes: &[u8], first: usize, count: usize, list: &mut [u32])
     }
 }
 
-// Reads the list that these bytes keep to the front of `list`, and answers how many entries it has: 13,
-// then 8.
+// Reads the list that a record of this kind keeps, with so many bytes between the kind and the entries,
+// to the front of `list`, and answers how many entries it has: 13, then 8.
+pub fn load_as(kind: u32, between: usize, bytes: &[u8], list: &mut [u32]) -> Count
+    ensures { λ r. ⌜ Writes (loadAs kind (6 + between) (now (bytes .entry)) (length (now (list .entry))))
+        (now (list .entry)) (counted r) (now (list .exit)) ⌝ }
+{
+    if !is_record(kind, between, bytes) {
+        return Count::Refused(Refusal::BadKept, 0);
+    }
+    let first = 6 + between;
+    let count = (bytes.len() - first) / 4;
+    if list.len() < count {
+        return Count::Refused(Refusal::Small, 0);
+    }
+    take_entries(bytes, first, count, list);
+    Count::Is(count)
+}
+
+// Reads the list that a record of kind 1 keeps to the front of `list`, and answers how many entries it
+// has: 13, then 8.
 pub fn load(bytes: &[u8], list: &mut [u32]) -> Count
     ensures { λ r. ⌜ Writes (loadKept (now (bytes .entry)) (length (now (list .entry))))
         (now (list .entry)) (counted r) (now (list .exit)) ⌝ }
 {
-    if !is_kept(bytes, 1, 6) {
-        return Count::Refused(Refusal::BadKept, 0);
-    }
-    let count = (bytes.len() - 6) / 4;
-    if list.len() < count {
-        return Count::Refused(Refusal::Small, 0);
-    }
-    take_entries(bytes, 6, count, list);
-    Count::Is(count)
+    load_as(1, 0, bytes, list)
 }

@@ -20,8 +20,8 @@ use Rattle.sfdu.proofs.Checking.{accepted-says}
 use Rattle.walk.proofs.Finding.{walked-value-fits}
 use Rattle.walk.proofs.WalkLoop.{place-inside}
 use Rattle.walk.proofs.WalkReads.{asWalked, walkAt, walk-reads-rows, resume, found-ends-inside}
-use Rattle.row_index.specs.Index.{indexOf}
-use Rattle.row_index.specs.Private.{known, theIndex, placeFound}
+use Rattle.row_index.specs.Index.{indexOf, placeFound}
+use Rattle.row_index.specs.Private.{known, theIndex}
 use Rattle.row_index.proofs.Sixteenths.{entry-is-a-row, one-entry-a-group}
 
 -- which versions of the label are allowed

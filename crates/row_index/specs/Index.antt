@@ -11,6 +11,7 @@ use Rattle.answer.specs.Refusal.{numberOf}
 use Rattle.label.specs.declared.Versions.{Versions}
 use Rattle.sfdu.specs.Row.{Row}
 use Rattle.sfdu.specs.Check.{rowsOfFile}
+use Rattle.walk.specs.declared.Leaf.{Leaf}
 use Rattle.row_index.specs.declared.Built.{Built}
 use Rattle.row_index.specs.declared.Build.{Build}
 use Rattle.row_index.specs.declared.Build.the-variants as build
@@ -49,6 +50,11 @@ same (x ∷ xs) (y ∷ ys) = eqb x y && same xs ys
 -- the whole list is this file's index
 unfoldable pub checkIndex : Versions → List ℕ → List ℕ → Outcome Unit
 checkIndex versions f xs = andThen (rowsOfFile versions f) (λ rows. need (same xs (indexOf rows)) 11 (answer tt))
+
+-- the place of the label that a walk came to, which an entry is; 0 where it came to none
+abbrev pub placeFound : Outcome Leaf → ℕ
+placeFound (answer x) = x .place
+placeFound (refuse n p) = 0
 
 -- what the answer enums stand for
 abbrev pub built : Build → Outcome Built

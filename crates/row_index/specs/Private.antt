@@ -1,11 +1,10 @@
--- Cited only by promises of private functions: the index of a file that may be refused, and the place that a walk came to.
+-- Cited only by promises of private functions: the index of a file that may be refused.
 use Prim.Native.Nat.{ℕ}
 use mathlib.Core.List.{List, []}
 use Rattle.answer.specs.Outcome.{Outcome, answer, refuse}
 use Rattle.label.specs.declared.Versions.{Versions}
 use Rattle.sfdu.specs.Row.{Row}
 use Rattle.sfdu.specs.Check.{rowsOfFile}
-use Rattle.walk.specs.declared.Leaf.{Leaf}
 use Rattle.row_index.specs.Index.{indexOf}
 
 -- the index of a file: of one that is refused, none
@@ -15,8 +14,3 @@ known (refuse n p) = []
 
 unfoldable pub theIndex : Versions → List ℕ → List ℕ
 theIndex versions f = known (rowsOfFile versions f)
-
--- the place of the label that a walk came to
-abbrev pub placeFound : Outcome Leaf → ℕ
-placeFound (answer x) = x .place
-placeFound (refuse n p) = 0

@@ -15,12 +15,12 @@ ghost use Rattle.answer.specs.Size.{largestFile};
 ghost use Rattle.answer.specs.Filled.{filled};
 ghost use Rattle.answer.specs.Window.{shown};
 ghost use Rattle.walk.specs.Walk.{walkFrom};
-ghost use Rattle.row_index.specs.Index.{built, indexOf, builtOf, buildIndex, same, accepted, checkIndex};
+ghost use Rattle.row_index.specs.Index.{built, indexOf, builtOf, buildIndex, same, accepted, checkIndex, placeFound};
 ghost use Rattle.row_index.specs.Jump.{jumpTo};
-ghost use Rattle.row_index.specs.Private.{placeFound, theIndex};
+ghost use Rattle.row_index.specs.Private.{theIndex};
 
 // How many rows an entry stands for.
-const GROUP: usize = 16;
+pub const GROUP: usize = 16;
 
 // What the builder wrote: so many entries, for a file with so many rows.
 pub struct Built {
@@ -59,7 +59,7 @@ pub fn jump_to(versions: Versions, file: &[u8], list: &[u32], k: usize) -> Show
 }
 
 // The place of the label that a walk comes to; 0 where it comes to none.
-fn entry_from(versions: Versions, file: &[u8], from: usize, leaves: usize) -> usize
+pub fn entry_from(versions: Versions, file: &[u8], from: usize, leaves: usize) -> usize
     ensures { λ r. ⌜ (r ≡ placeFound (walkFrom versions (now (file .entry)) from leaves)) × (r ≤ length (now (file .entry))) ⌝ }
 {
     match walk::walk_from(versions, file, from, leaves) {
@@ -107,7 +107,7 @@ fn entries_agree(versions: Versions, file: &[u8], list: &[u32]) -> bool
 }
 
 // How many groups of sixteen so many rows start.
-fn groups(rows: usize) -> usize
+pub fn groups(rows: usize) -> usize
     ensures { λ r. ⌜ r ≡ (rows + 15) / 16 ⌝ }
 {
     let whole = rows / GROUP;

@@ -5,6 +5,7 @@ pub mod Seeing
 pub mod Nested
 pub mod Checking
 pub mod Exact
+pub mod Few
 pub mod Values
 pub mod Allowed
 pub mod Addresses

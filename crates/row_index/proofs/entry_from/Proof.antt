@@ -9,7 +9,7 @@ use Rattle.label.specs.declared.Versions.{Versions}
 use Rattle.walk.specs.declared.Leaf.{Leaf}
 use Rattle.row_index.proofs.Entries.{place-found-inside}
 use Rattle.walk.specs.Walk.{walkedTo, walkFrom}
-use Rattle.row_index.specs.Private.{placeFound}
+use Rattle.row_index.specs.Index.{placeFound}
 use borrow.Author.Needs.{needs}
 use Rattle.row_index.proofs.entry_from.Statement.{statement}
 use Rattle.row_index.proofs.entry_from.Tie as tie
