@@ -51,6 +51,15 @@ last-entry (suc n) s =
     ∙ ap (λ (r : List ℕ). entriesOf n (drop 4 s) ++ (leNumber (take 4 r) ∷ []))
     (drop-drop (4 * n) 4 s ∙ ap (λ (k : ℕ). drop k s) further))
 
+-- entry i
+pub entry-at : (n i : ℕ) (s : List ℕ) → i < n → getD (entriesOf n s) i 0 ≡ leNumber (bytesAt s (4 * i) 4)
+entry-at zero i s h = absurd (omega arith)
+entry-at (suc n) zero s h = refl
+entry-at (suc n) (suc i) s h =
+    let further : 4 + 4 * i ≡ 4 * suc i = omega arith in
+    entry-at n i (drop 4 s) (omega arith)
+    ∙ ap (λ (r : List ℕ). leNumber (take 4 r)) (drop-drop (4 * i) 4 s ∙ ap (λ (k : ℕ). drop k s) further)
+
 -- a turn of the loop that writes entries from place `first` on
 pub one-entry-put : (old xs : List ℕ) (first i : ℕ) → i < length xs → first + 4 * length xs ≤ length old
     → putAt (putAt old first (entryBytes (take i xs))) (first + 4 * i) (le 4 (getD xs i 0)) ≡ putAt old first (entryBytes (take (i + 1) xs))

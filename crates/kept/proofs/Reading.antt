@@ -1,9 +1,11 @@
 -- Reading case by case, in the order of its refusals, over the kind and over where the entries begin.
-use Prim.Native.Nat.{ℕ, _+_, _-_, _/_, _%_, _≤_, _<_}
-use mathlib.Core.Path.{_≡_}
+use Prim.Native.Nat.{ℕ, _+_, _*_, _-_, _/_, _%_, _≤_, _<_}
+use native.Mathlib.Omega.{arith}
+use mathlib.Core.Path.{_≡_, _∙_, sym, ap}
 use mathlib.Core.Bool.{true, false, _&&_, and-false}
 use mathlib.Core.List.{List}
-use lib.ListN.{length, drop}
+use lib.ListN.{length, getD, take, drop}
+use lib.Seq.{drop-drop}
 use lib.Dec.{leb, eqb}
 use borrow.Author.Tests.{le-leb, lt-leb, eq-eqb, ne-eqb, leb-true, eqb-true}
 use Rattle.answer.specs.Outcome.{answer, refuse}
@@ -11,7 +13,7 @@ use Rattle.answer.specs.Window.{bytesAt}
 use Rattle.answer.proofs.Tests.{both-hold}
 use Rattle.little.specs.LittleEndian.{leNumber}
 use Rattle.kept.specs.Kept.{numberAt, entriesOf, isKept, readAs, loadAs}
-use Rattle.kept.proofs.Entries.{length-entries}
+use Rattle.kept.proofs.Entries.{length-entries, entry-at}
 
 -- four bytes that are not all there, and four that are
 module _ (s : List ℕ) (at : ℕ) where
@@ -20,6 +22,12 @@ module _ (s : List ℕ) (at : ℕ) where
 
   pub all-there : at + 4 ≤ length s → numberAt s at ≡ leNumber (bytesAt s at 4)
   all-there h = simp (le-leb _ _ h)
+
+-- entry i of those that begin at `first`
+pub entry-from-place : (first n i : ℕ) (s : List ℕ) → i < n → first + 4 * n ≤ length s → getD (entriesOf n (drop first s)) i 0 ≡ numberAt s (first + 4 * i)
+entry-from-place first n i s h fits =
+    entry-at n i (drop first s) h ∙ ap (λ (r : List ℕ). leNumber (take 4 r)) (drop-drop (4 * i) first s)
+    ∙ sym (all-there s (first + 4 * i) (omega arith))
 
 module _ (kind first : ℕ) (s : List ℕ) where
   pub too-few-bytes : length s < first → isKept kind first s ≡ false

@@ -52,7 +52,7 @@ module _ (kind : ℕ) (between xs : List ℕ) (two : kind < 2 ^ 16) (entries : B
 
 -- bytes that were read, as a record of any kind, are the kept form of what was read
 module _ (kind first : ℕ) (s xs : List ℕ) (head : 6 ≤ first) (bytes : Below 256 s) (reads : readAs kind first s ≡ answer xs) where
-  entries-were-read : (isKept kind first s ≡ true) × (answer (entriesOf ((length s - first) / 4) (drop first s)) ≡ answer xs)
+  pub entries-were-read : (isKept kind first s ≡ true) × (answer (entriesOf ((length s - first) / 4) (drop first s)) ≡ answer xs)
   unfolding readAs
   entries-were-read = passed 0 (isKept kind first s) 13 (answer (entriesOf ((length s - first) / 4) (drop first s))) xs reads
 
@@ -73,7 +73,7 @@ module _ (kind first : ℕ) (s xs : List ℕ) (head : 6 ≤ first) (bytes : Belo
       ∙ take-append-drop (first - 6) (drop 6 s)
 
   -- a number that was read from w bytes is written as those bytes
-  field-again : (at w n : ℕ) → at + w ≤ length s → leNumber (bytesAt s at w) ≡ n → le w n ≡ bytesAt s at w
+  pub field-again : (at w n : ℕ) → at + w ≤ length s → leNumber (bytesAt s at w) ≡ n → le w n ≡ bytesAt s at w
   field-again at w n fits is =
       let long : length (bytesAt s at w) ≡ w = length-take-le w (drop at s) (omega (arith, length-drop at s)) in
       ap₂ le (sym long) (sym is) ∙ bytes-of-number (bytesAt s at w) (below-in-the-front 256 w (drop at s) (below-in-the-rest 256 at s bytes))

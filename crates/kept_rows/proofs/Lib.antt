@@ -1,1 +1,2 @@
 pub mod Kind2
+pub mod RoundTrip

@@ -125,7 +125,7 @@ module _ (versions : Versions) where
         rw (accepted, index-of-accepted versions f rows accepted)
 
   module _ (f : List ℕ) (n p : ℕ) (refused : checkLabelled versions f ≡ refuse n p) where
-    no-rows : rowsOfFile versions f ≡ refuse n p
+    pub no-rows : rowsOfFile versions f ≡ refuse n p
     unfolding checkLabelled
     no-rows = refused-first (rowsOfFile versions f) length refused
 
