@@ -1,1 +1,3 @@
 pub mod Borne
+pub mod Exact
+pub mod SameBytes
