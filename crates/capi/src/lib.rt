@@ -10,6 +10,7 @@ use burst_codes::Enabled;
 use hand::Numbered;
 use hand::Result;
 use hand::Told;
+use kept_rows::Read;
 use label::LabelRead;
 use limits::Table;
 use orbit::Open;
@@ -27,6 +28,8 @@ ghost use Rattle.reader.specs.Rows.{checkFile};
 ghost use Rattle.reader.specs.Read.{readRow, jumpRow, rowFrom};
 ghost use Rattle.row_index.specs.Index.{indexOf, builtOf, buildIndex, checkIndex};
 ghost use Rattle.kept.specs.Kept.{keepIndex, loadKept};
+ghost use Rattle.kept_rows.specs.Kind2.{listOf, loadedOf, loadKept2, toKind1};
+ghost use Rattle.kept_check.specs.Check.{toKind2, checkKept2};
 ghost use Rattle.waveform.specs.Sample.{twiceAmplitude};
 ghost use Rattle.vax.specs.Numbers.{vaxF, vaxD, vaxDDropped};
 ghost use Rattle.orbit.specs.Opening.{perOrbitOpening};
@@ -330,7 +333,7 @@ pub extern "C" fn crest_keep_index(list: &[u32], out: &mut [u8], written: &mut u
     hand::count(kept::keep(list, out), written)
 }
 
-// Reads the list that these bytes keep to the front of `list`.
+// Reads the list that a record of kind 1 keeps to the front of `list`.
 #[no_mangle]
 pub extern "C" fn crest_load_kept(bytes: &[u8], list: &mut [u32], entries: &mut usize) -> Result
     ensures { λ r. ⌜ r ≡ resultOf (loadKept (now (bytes .entry)) (size (now (list .entry)))) ⌝ }
@@ -338,6 +341,69 @@ pub extern "C" fn crest_load_kept(bytes: &[u8], list: &mut [u32], entries: &mut 
     ensures { λ _. ⌜ now (entries .exit) ≡ handed size (loadKept (now (bytes .entry)) (size (now (list .entry)))) (now (entries .entry)) ⌝ }
 {
     hand::count(kept::load(bytes, list), entries)
+}
+
+// Reads the list that a record of kind 2 keeps to the front of `list`, and its row count.
+#[no_mangle]
+pub extern "C" fn crest_load_kept2(
+    bytes: &[u8],
+    list: &mut [u32],
+    rows: &mut usize,
+    entries: &mut usize,
+) -> Result
+    ensures { λ r. ⌜ r ≡ resultOf (mapped loadedOf (loadKept2 (now (bytes .entry)) (size (now (list .entry))))) ⌝ }
+    ensures { λ _. ⌜ now (list .exit) ≡ filled (mapped listOf (loadKept2 (now (bytes .entry)) (size (now (list .entry))))) (now (list .entry)) ⌝ }
+    ensures { λ _. ⌜ now (rows .exit) ≡ handed (λ l. l .rows) (mapped loadedOf (loadKept2 (now (bytes .entry)) (size (now (list .entry))))) (now (rows .entry)) ⌝ }
+    ensures { λ _. ⌜ now (entries .exit) ≡ handed (λ l. l .entries) (mapped loadedOf (loadKept2 (now (bytes .entry)) (size (now (list .entry))))) (now (entries .entry)) ⌝ }
+{
+    match kept_rows::load(bytes, list) {
+        Read::Is(l) => {
+            *rows = l.rows;
+            *entries = l.entries;
+            hand::DONE
+        }
+        Read::Refused(why, place) => hand::refused(why, place),
+    }
+}
+
+// Writes a record of kind 1 that keeps the file's index as one of kind 2 to the front of `out`.
+#[no_mangle]
+pub extern "C" fn crest_convert_1_to_2(
+    file: &[u8],
+    version_2: bool,
+    kept: &[u8],
+    out: &mut [u8],
+    written: &mut usize,
+) -> Result
+    ensures { λ r. ⌜ r ≡ resultOf (toKind2 (choiceOf version_2) (now (file .entry)) (now (kept .entry)) (size (now (out .entry)))) ⌝ }
+    ensures { λ _. ⌜ now (out .exit) ≡ filled (toKind2 (choiceOf version_2) (now (file .entry)) (now (kept .entry)) (size (now (out .entry)))) (now (out .entry)) ⌝ }
+    ensures { λ _. ⌜ now (written .exit) ≡ handed size (toKind2 (choiceOf version_2) (now (file .entry)) (now (kept .entry)) (size (now (out .entry)))) (now (written .entry)) ⌝ }
+{
+    hand::count(
+        kept_check::to_kind_2(hand::choice(version_2), file, kept, out),
+        written,
+    )
+}
+
+// Writes the list that a record of kind 2 keeps as a record of kind 1 to the front of `out`.
+#[no_mangle]
+pub extern "C" fn crest_convert_2_to_1(kept: &[u8], out: &mut [u8], written: &mut usize) -> Result
+    ensures { λ r. ⌜ r ≡ resultOf (toKind1 (now (kept .entry)) (size (now (out .entry)))) ⌝ }
+    ensures { λ _. ⌜ now (out .exit) ≡ filled (toKind1 (now (kept .entry)) (size (now (out .entry)))) (now (out .entry)) ⌝ }
+    ensures { λ _. ⌜ now (written .exit) ≡ handed size (toKind1 (now (kept .entry)) (size (now (out .entry)))) (now (written .entry)) ⌝ }
+{
+    hand::count(kept_rows::to_kind_1(kept, out), written)
+}
+
+// Whether a record of kind 2 keeps the index and the row count of a labelled file.
+#[no_mangle]
+pub extern "C" fn crest_check_kept2(file: &[u8], version_2: bool, kept: &[u8]) -> Result
+    ensures { λ r. ⌜ r ≡ resultOf (checkKept2 (choiceOf version_2) (now (file .entry)) (now (kept .entry))) ⌝ }
+{
+    match kept_check::check(hand::choice(version_2), file, kept) {
+        Verified::Right => hand::DONE,
+        Verified::Refused(why, place) => hand::refused(why, place),
+    }
 }
 
 // Twice the amplitude that a sample byte stands for: it never refuses, and returns the number itself.

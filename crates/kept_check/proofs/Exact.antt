@@ -37,8 +37,8 @@ module _ (versions : Versions) (f : List ℕ) where
     entries-fit =
         each-below (2 ^ 32) (indexOf rows)
         (λ i h.
-            let (x, walks, place) = leaf-of-entry versions f rows accepts i h in
-            omega (arith, place, found-ends-inside versions f 0 (16 * i) x walks, accepted-says versions f rows accepts .0))
+        let (x, walks, place) = leaf-of-entry versions f rows accepts i h in
+        omega (arith, place, found-ends-inside versions f 0 (16 * i) x walks, accepted-says versions f rows accepts .0))
 
     pub kept-form-reads-back : readKept2 (keptForm2 (countedOf rows)) ≡ answer (countedOf rows)
     kept-form-reads-back =
