@@ -1,5 +1,4 @@
 pub mod Putting
 pub mod Entries
 pub mod Writing
-pub mod Reading
 pub mod RoundTrip

@@ -7,24 +7,12 @@ use lib.ListN.{length, drop, length-append}
 use borrow.Author.Tests.{le-leb, lt-leb}
 use Rattle.answer.specs.Outcome.{answer, refuse}
 use Rattle.little.specs.LittleEndian.{le}
-use Rattle.kept.specs.Kept.{entryBytes, keptAs, keptForm, keepIndex}
+use Rattle.house_record.specs.Record.{entryBytes, keptAs}
+use Rattle.kept.specs.Kept.{keptForm, keepIndex}
 use Rattle.kept.specs.Private.{putAt}
-use Rattle.kept.proofs.Entries.{length-entry-bytes}
+use Rattle.house_record.proofs.Entries.{length-entry-bytes}
+use Rattle.house_record.proofs.Writing.{length-kept-as}
 use Rattle.kept.proofs.Putting.{put-to-the-front, put-after-put}
-
--- six bytes stand before what is between the kind and the entries
-pub length-kept-as : (kind : ℕ) (between xs : List ℕ) → length (keptAs kind between xs) ≡ 6 + (length between + 4 * length xs)
-unfolding keptAs
-length-kept-as kind between xs = omega (arith, length-append between (entryBytes xs), length-entry-bytes xs)
-
--- what stands in front of the entries, and then their bytes
-pub in-two-pieces : (kind : ℕ) (between xs : List ℕ) (follows : ℕ) → follows ≡ 2 + (length between + 4 * length xs)
-    → keptAs kind between xs ≡ (le 4 follows ++ (le 2 kind ++ between)) ++ entryBytes xs
-unfolding keptAs
-in-two-pieces kind between xs follows is =
-    let size : 2 + length (between ++ entryBytes xs) ≡ follows =
-    omega (arith, is, length-append between (entryBytes xs), length-entry-bytes xs) in
-    ap (λ (n : ℕ). le 4 n ++ (le 2 kind ++ (between ++ entryBytes xs))) size
 
 -- the theorem on its size: six bytes, and four for each entry
 pub length-kept-form : (xs : List ℕ) → length (keptForm xs) ≡ 6 + 4 * length xs

@@ -22,13 +22,13 @@ use Rattle.row_index.proofs.Entries.{index-of-accepted}
 use Rattle.row_index.proofs.IndexExact.{same-is-equal}
 use Rattle.row_index.proofs.Building.{rows-counted, no-rows}
 use Rattle.little.specs.LittleEndian.{le, leNumber, Below}
-use Rattle.kept.specs.Kept.{entriesOf, isKept, readAs, readKept, inRoom}
-use Rattle.kept.proofs.Entries.{length-entries}
-use Rattle.kept.proofs.Reading.{Accepted, accepted}
-use Rattle.kept.proofs.RoundTrip.{entries-are-the-rest}
-use Rattle.kept.proofs.Writing.{in-two-pieces}
+use Rattle.house_record.specs.Record.{inRoom, entriesOf, isKept, readAs}
+use Rattle.kept.specs.Kept.{readKept}
+use Rattle.house_record.proofs.Entries.{length-entries}
+use Rattle.house_record.proofs.Reading.{accepted, record-reads}
+use Rattle.house_record.proofs.RoundTrip.{entries-are-the-rest}
+use Rattle.house_record.proofs.Writing.{in-two-pieces}
 use Rattle.kept_rows.specs.Kind2.{Counted, keptForm2, withRows}
-use Rattle.kept_rows.proofs.Kind2.{record-reads}
 use Rattle.kept_check.specs.Check.{bearsOut, toKind2, checkKept2}
 use Rattle.kept_check.specs.Private.{rowsBorneOut}
 

@@ -14,11 +14,12 @@ use Rattle.row_index.specs.Index.{indexOf, same}
 use Rattle.row_index.proofs.Sixteenths.{one-entry-a-group}
 use Rattle.row_index.proofs.IndexExact.{equal-is-same, index-check-is-exact}
 use Rattle.little.specs.LittleEndian.{le}
-use Rattle.kept.specs.Kept.{keptForm, readKept, inRoom}
-use Rattle.kept.proofs.Writing.{length-kept-as, length-kept-form}
+use Rattle.house_record.specs.Record.{inRoom}
+use Rattle.kept.specs.Kept.{keptForm, readKept}
+use Rattle.house_record.proofs.Writing.{length-kept-as, room-for}
+use Rattle.kept.proofs.Writing.{length-kept-form}
 use Rattle.kept.proofs.RoundTrip.{written-reads-back, the-only-kept-form}
 use Rattle.kept_rows.specs.Kind2.{keptForm2, readKept2, toKind1}
-use Rattle.kept_rows.proofs.Kind2.{room-for}
 use Rattle.kept_check.specs.Check.{countedOf, toKind2}
 use Rattle.kept_check.specs.SameBytes.{SameBytes}
 use Rattle.kept_check.proofs.Exact.{rows-fit, entries-fit, kept-form-reads-back, one-record-a-file}

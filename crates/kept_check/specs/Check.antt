@@ -11,7 +11,8 @@ use Rattle.label.specs.declared.Versions.{Versions}
 use Rattle.sfdu.specs.Row.{Row}
 use Rattle.sfdu.specs.Check.{rowsOfFile}
 use Rattle.row_index.specs.Index.{indexOf, same}
-use Rattle.kept.specs.Kept.{readKept, inRoom}
+use Rattle.house_record.specs.Record.{inRoom}
+use Rattle.kept.specs.Kept.{readKept}
 use Rattle.kept_rows.specs.Kind2.{Counted, keptForm2, readKept2}
 
 -- what kind 2 keeps of a file with these rows

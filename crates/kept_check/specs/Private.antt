@@ -6,7 +6,7 @@ use Rattle.answer.specs.Outcome.{Outcome, answer, need, andThen}
 use Rattle.label.specs.declared.Versions.{Versions}
 use Rattle.sfdu.specs.Check.{rowsOfFile}
 use Rattle.row_index.specs.Index.{indexOf, same}
-use Rattle.kept.specs.Kept.{readAs}
+use Rattle.house_record.specs.Record.{readAs}
 
 -- how many rows the file has, where the list kept in a record of this kind is its index: 14, faults, 13, 11
 unfoldable pub rowsBorneOut : Versions → ℕ → ℕ → List ℕ → List ℕ → Outcome ℕ

@@ -13,7 +13,7 @@ ghost use lib.ListN.{length, drop};
 ghost use Rattle.answer.specs.Counted.{counted};
 ghost use Rattle.answer.specs.Filled.{Writes};
 ghost use Rattle.little.specs.LittleEndian.{le};
-ghost use Rattle.kept.specs.Kept.{entriesOf};
+ghost use Rattle.house_record.specs.Record.{entriesOf};
 ghost use Rattle.row_index.specs.Index.{same, accepted};
 ghost use Rattle.row_index.specs.Private.{theIndex};
 ghost use Rattle.kept_check.specs.Check.{toKind2, checkKept2};
@@ -30,7 +30,7 @@ fn entries_agree(versions: Versions, file: &[u8], kept: &[u8], first: usize, cou
     while done < count {
         let place = row_index::entry_from(versions, file, from, leaves);
         let at = first + 4 * done;
-        let entry = kept::number_at(kept, at) as usize;
+        let entry = house_record::number_at(kept, at) as usize;
         if entry != place {
             return false;
         }
@@ -49,7 +49,7 @@ fn rows_borne_out(versions: Versions, file: &[u8], kind: u32, between: usize, ke
     match labelled::check(versions, file) {
         Count::Refused(why, place) => Count::Refused(why, place),
         Count::Is(rows) => {
-            if !kept::is_record(kind, between, kept) {
+            if !house_record::is_record(kind, between, kept) {
                 return Count::Refused(Refusal::BadKept, 0);
             }
             let first = 6 + between;
@@ -74,7 +74,7 @@ pub fn check(versions: Versions, file: &[u8], kept: &[u8]) -> Verified
     match rows_borne_out(versions, file, 2, 4, kept) {
         Count::Refused(why, place) => Verified::Refused(why, place),
         Count::Is(rows) => {
-            let told = kept::number_at(kept, 6) as usize;
+            let told = house_record::number_at(kept, 6) as usize;
             if told != rows {
                 return Verified::Refused(Refusal::BadIndex, 0);
             }
@@ -112,9 +112,9 @@ pub fn to_kind_2(versions: Versions, file: &[u8], kept: &[u8], out: &mut [u8]) -
     match rows_borne_out(versions, file, 1, 0, kept) {
         Count::Refused(why, place) => Count::Refused(why, place),
         Count::Is(rows) => {
-            let follows = kept::number_at(kept, 0) + 4;
+            let follows = house_record::number_at(kept, 0) + 4;
             let front = head(follows, rows as u32);
-            kept_rows::put(&front, &kept[6..], out)
+            house_record::put(&front, &kept[6..], out)
         }
     }
 }

@@ -1,35 +1,22 @@
 -- Reading kind 2 and turning it back, case by case: both are what is done with a house record of any kind.
-use Prim.Native.Nat.{ℕ, _+_, _*_, _-_, _/_, _≤_, _<_}
+use Prim.Native.Nat.{ℕ, _+_, _*_, _-_, _/_}
 use native.Mathlib.Omega.{arith}
 use mathlib.Core.Path.{_≡_, refl, _∙_, sym, ap, ap₂}
 use mathlib.Core.Bool.{true, false}
 use mathlib.Core.List.{List, [], _++_}
-use lib.ListN.{length, drop, length-drop}
-use borrow.Author.Tests.{le-leb, lt-leb}
+use lib.ListN.{length, drop}
 use Rattle.answer.specs.Outcome.{Outcome, answer, refuse, mapped}
 use Rattle.answer.specs.Filled.{Writes, filled}
 use Rattle.answer.specs.Window.{bytesAt}
-use Rattle.answer.proofs.Outcomes.{answer-injective, answer-is-no-refusal, first-answered, passed}
+use Rattle.answer.proofs.Outcomes.{answer-injective, answer-is-no-refusal}
 use Rattle.little.specs.LittleEndian.{le, leNumber, Below}
-use Rattle.kept.specs.Kept.{numberAt, entriesOf, isKept, readAs, loadAs, inRoom}
-use Rattle.kept.proofs.Entries.{length-entries}
-use Rattle.kept.proofs.Reading.{Accepted, accepted, all-there}
-use Rattle.kept.proofs.RoundTrip.{entries-are-the-rest}
-use Rattle.kept.proofs.Writing.{in-two-pieces}
+use Rattle.house_record.specs.Record.{numberAt, entriesOf, isKept, readAs, inRoom}
+use Rattle.house_record.proofs.Entries.{length-entries}
+use Rattle.house_record.proofs.Reading.{accepted, all-there, record-reads}
+use Rattle.house_record.proofs.Writing.{in-two-pieces}
+use Rattle.house_record.proofs.RoundTrip.{entries-are-the-rest}
 use Rattle.kept_rows.specs.declared.Loaded.{Loaded}
 use Rattle.kept_rows.specs.Kind2.{withRows, readKept2, listOf, loadedOf, toKind1}
-
--- bytes that a reader took are a record
-pub loaded-is-kept : (kind first : ℕ) (s : List ℕ) (room : ℕ) (w : List ℕ) → loadAs kind first s room ≡ answer w → isKept kind first s ≡ true
-unfolding loadAs readAs
-loaded-is-kept kind first s room w e =
-    let (xs, reads, _) = first-answered (readAs kind first s) (inRoom room) w e in
-    passed 0 (isKept kind first s) 13 (answer (entriesOf ((length s - first) / 4) (drop first s))) xs reads .0
-
--- the entries of a record
-pub record-reads : (kind first : ℕ) (s : List ℕ) → isKept kind first s ≡ true → readAs kind first s ≡ answer (entriesOf ((length s - first) / 4) (drop first s))
-unfolding readAs
-record-reads kind first s kept = simp kept
 
 -- the row count, where bytes are a record of kind 2
 pub rows-are-there : (s : List ℕ) → isKept 2 10 s ≡ true → numberAt s 6 ≡ leNumber (bytesAt s 6 4)
@@ -51,14 +38,6 @@ module _ (s old new : List ℕ) where
     where
       refused-alike : _≡_ {A = Outcome ℕ} (refuse n p) (refuse m q) → _≡_ {A = Outcome Loaded} (refuse n p) (refuse m q)
       refused-alike d = cc
-
--- what is written, and whether there is room for it
-module _ (room : ℕ) (w : List ℕ) where
-  pub no-room-for : room < length w → inRoom room w ≡ refuse 8 0
-  no-room-for h = simp (lt-leb _ _ h)
-
-  pub room-for : length w ≤ room → inRoom room w ≡ answer w
-  room-for h = simp (le-leb _ _ h)
 
 -- the way back
 module _ (s : List ℕ) (room : ℕ) where

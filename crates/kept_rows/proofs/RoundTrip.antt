@@ -10,9 +10,9 @@ use Rattle.answer.specs.Window.{bytesAt}
 use Rattle.answer.proofs.Outcomes.{mapped-answer}
 use Rattle.little.specs.LittleEndian.{le, leNumber, Below}
 use Rattle.little.proofs.LittleEndian.{number-of-bytes}
-use Rattle.kept.specs.Kept.{keptAs, readAs}
-use Rattle.kept.proofs.Reading.{accepted}
-use Rattle.kept.proofs.RoundTrip.{kept-reads-back, entries-were-read, field-again, read-is-kept}
+use Rattle.house_record.specs.Record.{keptAs, readAs}
+use Rattle.house_record.proofs.Reading.{accepted}
+use Rattle.house_record.proofs.RoundTrip.{kept-reads-back, entries-were-read, field-again, read-is-kept}
 use Rattle.kept_rows.specs.Kind2.{Counted, keptForm2, withRows, readKept2}
 
 -- the row count stands where it is read

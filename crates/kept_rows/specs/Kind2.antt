@@ -8,7 +8,8 @@ use Rattle.answer.specs.Outcome.{Outcome, answer, refuse, andThen, mapped}
 use Rattle.answer.specs.Refusal.{numberOf}
 use Rattle.answer.specs.Window.{bytesAt}
 use Rattle.little.specs.LittleEndian.{le, leNumber}
-use Rattle.kept.specs.Kept.{keptAs, keptForm, readAs, loadAs, inRoom}
+use Rattle.house_record.specs.Record.{keptAs, inRoom, readAs, loadAs}
+use Rattle.kept.specs.Kept.{keptForm}
 use Rattle.kept_rows.specs.declared.Loaded.{Loaded}
 use Rattle.kept_rows.specs.declared.Read.{Read}
 use Rattle.kept_rows.specs.declared.Read.the-variants.{Is, Refused}

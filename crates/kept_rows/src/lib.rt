@@ -1,6 +1,6 @@
 // Kind 2 of the kept form of an index, which has the file's row count in front of the entries: read, and
 // turned back into kind 1 without the file. Renders document 02, item 9. The house record, of which it
-// is a use, is left to `kept`; what takes the file, turning kind 1 into kind 2 and the check, is left to
+// is a use, is left to `house_record`; what takes the file, turning kind 1 into kind 2 and the check, is left to
 // `kept_check`.
 use answer::Count;
 use answer::Refusal;
@@ -11,7 +11,6 @@ ghost use Rattle.answer.specs.Outcome.{mapped};
 ghost use Rattle.answer.specs.Counted.{counted};
 ghost use Rattle.answer.specs.Filled.{Writes, filled};
 ghost use Rattle.little.specs.LittleEndian.{le};
-ghost use Rattle.kept.specs.Kept.{inRoom};
 ghost use Rattle.kept_rows.specs.Kind2.{listOf, loadedOf, loadKept2, toKind1, loaded};
 
 // What a record of kind 2 tells: how many rows the file has, and how many entries its index has.
@@ -33,31 +32,13 @@ pub fn load(kept: &[u8], list: &mut [u32]) -> Read
     ensures leaves { λ _. ⌜ now (list .exit) ≡ filled (mapped listOf (loadKept2 (now (kept .entry)) (length (now (list .entry)))))
         (now (list .entry)) ⌝ }
 {
-    match kept::load_as(2, 4, kept, list) {
+    match house_record::load(2, 4, kept, list) {
         Count::Is(entries) => {
-            let rows = kept::number_at(kept, 6) as usize;
+            let rows = house_record::number_at(kept, 6) as usize;
             Read::Is(Loaded { rows, entries })
         }
         Count::Refused(why, place) => Read::Refused(why, place),
     }
-}
-
-// Writes a record in two pieces, what stands in front of its entries and then their bytes, to the front
-// of `out`, and answers how many bytes it is; 8 where there is no room for it.
-pub fn put(front: &[u8], entries: &[u8], out: &mut [u8]) -> Count
-    ensures { λ r. ⌜ Writes (inRoom (length (now (out .entry))) (now (front .entry) ++ now (entries .entry)))
-        (now (out .entry)) (counted r) (now (out .exit)) ⌝ }
-{
-    let at = front.len();
-    if out.len() < at {
-        return Count::Refused(Refusal::Small, 0);
-    }
-    if out.len() - at < entries.len() {
-        return Count::Refused(Refusal::Small, 0);
-    }
-    bytes::copy(front, out);
-    bytes::copy(entries, &mut out[at..]);
-    Count::Is(at + entries.len())
 }
 
 // The length, how many bytes follow it, and the kind of a record of kind 1.
@@ -74,10 +55,10 @@ pub fn to_kind_1(kept: &[u8], out: &mut [u8]) -> Count
     ensures { λ r. ⌜ Writes (toKind1 (now (kept .entry)) (length (now (out .entry))))
         (now (out .entry)) (counted r) (now (out .exit)) ⌝ }
 {
-    if !kept::is_record(2, 4, kept) {
+    if !house_record::is_record(2, 4, kept) {
         return Count::Refused(Refusal::BadKept, 0);
     }
-    let follows = kept::number_at(kept, 0) - 4;
+    let follows = house_record::number_at(kept, 0) - 4;
     let front = head(follows);
-    put(&front, &kept[10..], out)
+    house_record::put(&front, &kept[10..], out)
 }

@@ -8,7 +8,7 @@ use lib.ListN.{length}
 use denote.Ref.{now}
 use borrow.Author.Needs.{needs}
 use Rattle.answer.proofs.Writers.{refused-writes-nothing, written-to-the-front}
-use Rattle.kept.specs.Kept.{entryBytes}
+use Rattle.house_record.specs.Record.{entryBytes}
 use Rattle.kept.specs.Private.{putAt}
 use Rattle.kept.proofs.Writing.{length-kept-form, too-many, too-small, written, head-and-entries}
 use Rattle.kept.proofs.keep.Statement.{statement}

@@ -8,7 +8,7 @@ use lib.Seq.{take-all}
 use denote.Ref.{now}
 use borrow.Author.Needs.{needs}
 use Rattle.little.specs.LittleEndian.{le}
-use Rattle.kept.specs.Kept.{entryBytes}
+use Rattle.house_record.specs.Record.{entryBytes}
 use Rattle.kept.specs.Private.{putAt}
 use Rattle.kept.proofs.Putting.{put-nothing}
 use Rattle.kept.proofs.Entries.{one-entry-put}

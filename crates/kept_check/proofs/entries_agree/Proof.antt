@@ -8,9 +8,9 @@ use borrow.Author.Needs.{needs}
 use denote.Ref.{now}
 use Rattle.row_index.proofs.Entries.{Entry, entry-found}
 use Rattle.row_index.proofs.Building.{Comparing, nothing-compared, entry-agrees, entry-differs, all-compared}
-use Rattle.kept.specs.Kept.{entriesOf}
-use Rattle.kept.proofs.Entries.{length-entries}
-use Rattle.kept.proofs.Reading.{entry-from-place}
+use Rattle.house_record.specs.Record.{entriesOf}
+use Rattle.house_record.proofs.Entries.{length-entries}
+use Rattle.house_record.proofs.Reading.{entry-from-place}
 use Rattle.kept_check.proofs.entries_agree.Statement.{statement}
 use Rattle.kept_check.proofs.entries_agree.Tie as tie
 

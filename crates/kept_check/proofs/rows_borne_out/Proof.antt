@@ -12,9 +12,9 @@ use Rattle.answer.specs.Counted.{counted}
 use Rattle.sfdu.specs.Check.{checkLabelled}
 use Rattle.row_index.specs.Private.{theIndex}
 use Rattle.row_index.proofs.Building.{entries-counted, lengths-differ}
-use Rattle.kept.specs.Kept.{entriesOf, isKept}
-use Rattle.kept.proofs.Entries.{length-entries}
-use Rattle.kept.proofs.Reading.{Accepted, accepted}
+use Rattle.house_record.specs.Record.{entriesOf, isKept}
+use Rattle.house_record.proofs.Entries.{length-entries}
+use Rattle.house_record.proofs.Reading.{Accepted, accepted}
 use Rattle.kept_check.proofs.Borne.{not-accepted, no-record, compared}
 use borrow.Author.Needs.{needs}
 use Rattle.kept_check.proofs.rows_borne_out.Statement.{statement}

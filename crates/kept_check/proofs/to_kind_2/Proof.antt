@@ -11,8 +11,9 @@ use Rattle.answer.proofs.Outcomes.{after-refusal}
 use Rattle.answer.proofs.Parts.{all-that-is-left}
 use Rattle.answer.proofs.Writers.{refused-writes-nothing}
 use Rattle.little.proofs.LittleEndian.{each-below}
-use Rattle.kept.specs.Kept.{readKept, inRoom}
-use Rattle.kept.proofs.Reading.{accepted, all-there}
+use Rattle.house_record.specs.Record.{inRoom}
+use Rattle.kept.specs.Kept.{readKept}
+use Rattle.house_record.proofs.Reading.{accepted, all-there}
 use Rattle.kept_rows.specs.Kind2.{keptForm2}
 use Rattle.kept_check.specs.Private.{rowsBorneOut}
 use Rattle.kept_check.proofs.Borne.{Borne, borne, there-by-rows, way-there}

@@ -3,14 +3,15 @@ use mathlib.Core.Path.{_∙_, ap}
 use lib.ListN.{length}
 use denote.Ref.{now}
 use Rattle.answer.specs.Counted.{counted}
-use Rattle.kept.specs.Kept.{loadAs}
-use Rattle.kept_rows.proofs.Kind2.{loaded-is-kept, rows-are-there, loaded-with-rows, not-loaded}
+use Rattle.house_record.specs.Record.{loadAs}
+use Rattle.kept_rows.proofs.Kind2.{rows-are-there, loaded-with-rows, not-loaded}
+use Rattle.house_record.proofs.Reading.{loaded-is-kept}
 use borrow.Author.Needs.{needs}
 use Rattle.kept_rows.proofs.load.Statement.{statement}
 use Rattle.kept_rows.proofs.load.Tie as tie
 
-load-as-requires : tie.Need-load-as-requires
-load-as-requires c κs = search needs
+load-requires : tie.Need-load-requires
+load-requires c κs = search needs
 
 enum-known-entries : tie.Need-enum-known-entries
 enum-known-entries c = search needs
@@ -34,7 +35,7 @@ returns c =
     let a = called .before .before .before .before .args in
     let s = now (a .kept) in
     let room = length (now (a .list)) in
-    loaded-with-rows s (now (a .list)) _ (loadAs 2 10 s room) _ _ _ (called .load-as .ensures) (ap counted (met .entries .given .1))
+    loaded-with-rows s (now (a .list)) _ (loadAs 2 10 s room) _ _ _ (called .load .ensures) (ap counted (met .entries .given .1))
     (λ w e. c .number-at .ensures ∙ rows-are-there s (loaded-is-kept 2 10 s room w e))
 
 same-length-2 : tie.Need-same-length-2
@@ -46,13 +47,13 @@ returns-2 c =
     let called = met .before .before .before .before in
     let a = called .before .before .before .before .args in
     let s = now (a .kept) in
-    not-loaded s (now (a .list)) _ (loadAs 2 10 s (length (now (a .list)))) _ _ _ (called .load-as .ensures) (ap counted (met .why .given .1))
+    not-loaded s (now (a .list)) _ (loadAs 2 10 s (length (now (a .list)))) _ _ _ (called .load .ensures) (ap counted (met .why .given .1))
 
 pub load-spec : {M : Type 1} → statement M
 load-spec =
     tie.close
     (tie.spec
-    load-as-requires
+    load-requires
     enum-known-entries
     number-at-requires
     cast-rows

@@ -10,8 +10,8 @@ use denote.Ref.{now}
 use Rattle.answer.proofs.Parts.{all-that-is-left}
 use Rattle.answer.proofs.Writers.{refused-writes-nothing}
 use Rattle.little.proofs.LittleEndian.{each-below}
-use Rattle.kept.specs.Kept.{isKept, inRoom}
-use Rattle.kept.proofs.Reading.{Accepted, accepted, all-there}
+use Rattle.house_record.specs.Record.{isKept, inRoom}
+use Rattle.house_record.proofs.Reading.{Accepted, accepted, all-there}
 use Rattle.kept_rows.proofs.Kind2.{no-way-back, way-back}
 use borrow.Author.Needs.{needs}
 use Rattle.kept_rows.proofs.to_kind_1.Statement.{statement}

@@ -1,19 +1,19 @@
 -- Reading case by case, in the order of its refusals, over the kind and over where the entries begin.
 use Prim.Native.Nat.{ℕ, _+_, _*_, _-_, _/_, _%_, _≤_, _<_}
 use native.Mathlib.Omega.{arith}
-use mathlib.Core.Path.{_≡_, _∙_, sym, ap}
+use mathlib.Core.Path.{_≡_, _∙_, sym}
 use mathlib.Core.Bool.{true, false, _&&_, and-false}
 use mathlib.Core.List.{List}
-use lib.ListN.{length, getD, take, drop}
-use lib.Seq.{drop-drop}
+use lib.ListN.{length, getD, drop}
 use lib.Dec.{leb, eqb}
 use borrow.Author.Tests.{le-leb, lt-leb, eq-eqb, ne-eqb, leb-true, eqb-true}
 use Rattle.answer.specs.Outcome.{answer, refuse}
 use Rattle.answer.specs.Window.{bytesAt}
+use Rattle.answer.proofs.Outcomes.{first-answered, passed}
 use Rattle.answer.proofs.Tests.{both-hold}
 use Rattle.little.specs.LittleEndian.{leNumber}
-use Rattle.kept.specs.Kept.{numberAt, entriesOf, isKept, readAs, loadAs}
-use Rattle.kept.proofs.Entries.{length-entries, entry-at}
+use Rattle.house_record.specs.Record.{inRoom, numberAt, entriesOf, isKept, readAs, loadAs}
+use Rattle.house_record.proofs.Entries.{length-entries, entry-place}
 
 -- four bytes that are not all there, and four that are
 module _ (s : List ℕ) (at : ℕ) where
@@ -23,11 +23,9 @@ module _ (s : List ℕ) (at : ℕ) where
   pub all-there : at + 4 ≤ length s → numberAt s at ≡ leNumber (bytesAt s at 4)
   all-there h = simp (le-leb _ _ h)
 
--- entry i of those that begin at `first`
+-- entry i of those that begin at `first`, where they are all there
 pub entry-from-place : (first n i : ℕ) (s : List ℕ) → i < n → first + 4 * n ≤ length s → getD (entriesOf n (drop first s)) i 0 ≡ numberAt s (first + 4 * i)
-entry-from-place first n i s h fits =
-    entry-at n i (drop first s) h ∙ ap (λ (r : List ℕ). leNumber (take 4 r)) (drop-drop (4 * i) first s)
-    ∙ sym (all-there s (first + 4 * i) (omega arith))
+entry-from-place first n i s h fits = entry-place first n i s h ∙ sym (all-there s (first + 4 * i) (omega arith))
 
 module _ (kind first : ℕ) (s : List ℕ) where
   pub too-few-bytes : length s < first → isKept kind first s ≡ false
@@ -78,3 +76,15 @@ module _ (kind first : ℕ) (s : List ℕ) (room : ℕ) where
     pub loaded : (length s - first) / 4 ≤ room → loadAs kind first s room ≡ answer (entriesOf ((length s - first) / 4) (drop first s))
     unfolding readAs loadAs
     loaded h = simp (kept, length-entries, le-leb _ _ h)
+
+-- bytes that a reader took are a record
+pub loaded-is-kept : (kind first : ℕ) (s : List ℕ) (room : ℕ) (w : List ℕ) → loadAs kind first s room ≡ answer w → isKept kind first s ≡ true
+unfolding loadAs readAs
+loaded-is-kept kind first s room w e =
+    let (xs, reads, _) = first-answered (readAs kind first s) (inRoom room) w e in
+    passed 0 (isKept kind first s) 13 (answer (entriesOf ((length s - first) / 4) (drop first s))) xs reads .0
+
+-- the entries of a record
+pub record-reads : (kind first : ℕ) (s : List ℕ) → isKept kind first s ≡ true → readAs kind first s ≡ answer (entriesOf ((length s - first) / 4) (drop first s))
+unfolding readAs
+record-reads kind first s kept = simp kept

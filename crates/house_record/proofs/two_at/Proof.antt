@@ -1,11 +1,11 @@
--- `kept::two_at` meets its contract: the two bytes are those from the place on.
+-- `house_record::two_at` meets its contract: the two bytes are those from the place on.
 use mathlib.Core.Path.{_∙_, sym, ap}
 use denote.Ref.{now}
 use Rattle.little.specs.LittleEndian.{leNumber}
 use Rattle.little.proofs.LittleEndian.{two-bytes}
 use borrow.Author.Needs.{needs}
-use Rattle.kept.proofs.two_at.Statement.{statement}
-use Rattle.kept.proofs.two_at.Tie as tie
+use Rattle.house_record.proofs.two_at.Statement.{statement}
+use Rattle.house_record.proofs.two_at.Tie as tie
 
 shared-slice-read-two : tie.Need-shared-slice-read-two
 shared-slice-read-two c = search needs

@@ -1,11 +1,11 @@
--- `kept::number_at` meets its contract: the four bytes are all there, or they are not.
+-- `house_record::number_at` meets its contract: the four bytes are all there, or they are not.
 use native.Mathlib.Omega.{arith}
 use mathlib.Core.Path.{_∙_, sym}
 use denote.Ref.{now}
-use Rattle.kept.proofs.Reading.{not-all-there, all-there}
+use Rattle.house_record.proofs.Reading.{not-all-there, all-there}
 use borrow.Author.Needs.{needs}
-use Rattle.kept.proofs.number_at.Statement.{statement}
-use Rattle.kept.proofs.number_at.Tie as tie
+use Rattle.house_record.proofs.number_at.Statement.{statement}
+use Rattle.house_record.proofs.number_at.Tie as tie
 
 returns : tie.Need-returns
 returns c =

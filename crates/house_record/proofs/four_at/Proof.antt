@@ -1,11 +1,11 @@
--- `kept::four_at` meets its contract: the four bytes are those from the place on.
+-- `house_record::four_at` meets its contract: the four bytes are those from the place on.
 use mathlib.Core.Path.{_∙_, sym, ap}
 use denote.Ref.{now}
 use Rattle.little.specs.LittleEndian.{leNumber}
 use Rattle.little.proofs.LittleEndian.{four-bytes}
 use borrow.Author.Needs.{needs}
-use Rattle.kept.proofs.four_at.Statement.{statement}
-use Rattle.kept.proofs.four_at.Tie as tie
+use Rattle.house_record.proofs.four_at.Statement.{statement}
+use Rattle.house_record.proofs.four_at.Tie as tie
 
 shared-slice-read-four : tie.Need-shared-slice-read-four
 shared-slice-read-four c = search needs

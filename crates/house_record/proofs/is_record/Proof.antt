@@ -1,14 +1,14 @@
--- `kept::is_record` meets its contract: each test that fails decides, in the definition's order.
+-- `house_record::is_record` meets its contract: each test that fails decides, in the definition's order.
 use native.Mathlib.Omega.{arith}
 use Prim.Native.Nat.{ℕ, _+_, _-_, _%_}
 use mathlib.Core.Path.{_≡_, _∙_, sym, ap}
 use lib.Dec.{eqb}
 use lib.ListN.{length}
 use denote.Ref.{now}
-use Rattle.kept.proofs.Reading.{too-few-bytes, wrong-length, wrong-kind, whole-entries-decide}
+use Rattle.house_record.proofs.Reading.{too-few-bytes, wrong-length, wrong-kind, whole-entries-decide}
 use borrow.Author.Needs.{needs}
-use Rattle.kept.proofs.is_record.Statement.{statement}
-use Rattle.kept.proofs.is_record.Tie as tie
+use Rattle.house_record.proofs.is_record.Statement.{statement}
+use Rattle.house_record.proofs.is_record.Tie as tie
 
 returns : tie.Need-returns
 returns c =

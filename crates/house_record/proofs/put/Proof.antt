@@ -1,4 +1,4 @@
--- `kept_rows::put` meets its contract: no room for the first piece, none for the second behind it, or both at the front.
+-- `house_record::put` meets its contract: no room for the first piece, none for the second behind it, or both at the front.
 use native.Mathlib.Omega.{arith}
 use mathlib.Core.Path.{refl}
 use mathlib.Core.List.{_++_}
@@ -6,10 +6,10 @@ use lib.ListN.{length, length-append}
 use Prim.Native.Nat.{_+_, _≤_}
 use denote.Ref.{now}
 use Rattle.answer.proofs.Writers.{refused-writes-nothing, written-to-the-front, two-pieces}
-use Rattle.kept_rows.proofs.Kind2.{no-room-for, room-for}
+use Rattle.house_record.proofs.Writing.{no-room-for, room-for}
 use borrow.Author.Needs.{needs}
-use Rattle.kept_rows.proofs.put.Statement.{statement}
-use Rattle.kept_rows.proofs.put.Tie as tie
+use Rattle.house_record.proofs.put.Statement.{statement}
+use Rattle.house_record.proofs.put.Tie as tie
 
 returns : tie.Need-returns
 returns c =
@@ -32,6 +32,9 @@ returns-2 c =
     refused-writes-nothing old
     (no-room-for (length old) (front ++ entries) (omega (arith, length-append front entries, c .if2 .taken)))
 
+add-size : tie.Need-add-size
+add-size c = search needs
+
 copy-requires : tie.Need-copy-requires
 copy-requires c κs = search needs
 
@@ -46,9 +49,6 @@ part-copy-end c = search needs
 
 copy-requires-2 : tie.Need-copy-requires-2
 copy-requires-2 c κs = search needs
-
-add-t5 : tie.Need-add-t5
-add-t5 c = search needs
 
 same-length : tie.Need-same-length
 same-length c = search needs
@@ -74,11 +74,11 @@ put-spec =
     returns
     sub-if2
     returns-2
+    add-size
     copy-requires
     sub-copy
     part-copy-start
     part-copy-end
     copy-requires-2
-    add-t5
     same-length
     returns-3)

@@ -1,19 +1,19 @@
--- `kept::load_as` meets its contract: each refusal leaves the list as it was; else the entries stand at its front.
+-- `house_record::load` meets its contract: each refusal leaves the list as it was; else the entries stand at its front.
 use native.Mathlib.Omega.{arith}
-use mathlib.Core.Path.{_≡_, _∙_, sym}
+use mathlib.Core.Path.{_≡_, _∙_, sym, ap}
+use mathlib.Core.List.{_++_}
 use lib.ListN.{length, drop}
-use Prim.Native.Nat.{_+_, _-_, _/_}
+use Prim.Native.Nat.{ℕ, _+_, _-_, _/_}
 use mathlib.Core.Bool.{true}
 use borrow.Author.Tests.{not-true, not-false}
 use denote.Ref.{now}
 use borrow.Author.Needs.{needs}
 use Rattle.answer.proofs.Writers.{refused-writes-nothing, written-to-the-front}
-use Rattle.kept.specs.Kept.{entriesOf, isKept}
-use Rattle.kept.proofs.Putting.{put-to-the-front}
-use Rattle.kept.proofs.Entries.{length-entries}
-use Rattle.kept.proofs.Reading.{Accepted, accepted, not-kept, no-room, loaded}
-use Rattle.kept.proofs.load_as.Statement.{statement}
-use Rattle.kept.proofs.load_as.Tie as tie
+use Rattle.house_record.specs.Record.{entriesOf, isKept}
+use Rattle.house_record.proofs.Entries.{length-entries}
+use Rattle.house_record.proofs.Reading.{Accepted, accepted, not-kept, no-room, loaded}
+use Rattle.house_record.proofs.load.Statement.{statement}
+use Rattle.house_record.proofs.load.Tie as tie
 
 -- past the first refusal the bytes are a record of this kind
 is-a-record : (c : tie.Else1) → isKept (c .before .before .before .before .args .kind) (6 + c .before .before .before .before .args .between) (now (c .before .before .before .before .args .bytes)) ≡ true
@@ -64,12 +64,12 @@ returns-3 c =
     let old = now (a .list) in
     let first = 6 + a .between in
     let count = (length bytes - first) / 4 in
-    rw (c .before .before .take-entries .ensures ∙ put-to-the-front old (entriesOf count (drop first bytes)))
-    (written-to-the-front old count (length-entries count (drop first bytes))
-    (loaded (a .kind) first bytes (length old) (is-a-record kept) (room .if2 .left)))
+    let many = length-entries count (drop first bytes) in
+    rw (c .before .before .take-entries .ensures ∙ ap (λ (n : ℕ). entriesOf count (drop first bytes) ++ drop n old) (sym many))
+    (written-to-the-front old count many (loaded (a .kind) first bytes (length old) (is-a-record kept) (room .if2 .left)))
 
-pub load-as-spec : {M : Type 1} → statement M
-load-as-spec =
+pub load-spec : {M : Type 1} → statement M
+load-spec =
     tie.close
     (tie.spec
     is-record-requires
