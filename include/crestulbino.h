@@ -20,7 +20,7 @@
  * its length in eight digits, with spaces for those in front or without; version 2 has it as a binary number of 64 bits, the
  * most significant byte first. Every call that reads labels is told by version_2 whether version 2 is allowed beside version 1;
  * if not, a label of version 2 is BADLABEL. Take one choice throughout for what belongs together: the check of a file, its
- * index and the check of that, reading and the jump.
+ * index, kept or not, and the check of that, reading and the jump.
  *
  * A short burst file (Cassini SBDR) has records of 1,272 bytes, which are its rows. They stand end to end from the place start
  * on, which the caller gives, to the end of the file; where start is that end, there are none. What is in front of start is not
@@ -122,8 +122,11 @@ enum crest_mode_number {
 /* One entry of an index stands for so many rows: n rows have (n + 15) / 16 entries. */
 #define CREST_ROWS_PER_ENTRY 16u
 
-/* The bytes of a kept index in front of its entries, of four bytes each. */
+/* The bytes of a kept index of kind 1 in front of its entries, of four bytes each. */
 #define CREST_KEPT_FRONT_BYTES 6u
+
+/* The same of kind 2, which has the row count there, of four bytes too. */
+#define CREST_KEPT2_FRONT_BYTES 10u
 
 /* The bytes of a record of a burst file, which is a row. */
 #define CREST_BURST_BYTES 1272u
@@ -152,9 +155,9 @@ static inline crest_refusal_words crest_words_of(uint64_t number)
         {"SMALL", "the lent output is too short"},
         {"RESERVED", "the VAX number has sign 1 and exponent 0"},
         {"UNKNOWN", "there is no such field, or the element or field has no limits"},
-        {"BADINDEX", "the list is not the index of this file"},
+        {"BADINDEX", "the list is not the index of this file, or the row count is not this file's"},
         {"RAGGED", "the waveform file is no multiple of 2,080 bytes, or the rest of the burst file none of 1,272"},
-        {"BADKEPT", "these bytes are no kept index"},
+        {"BADKEPT", "these bytes are no kept index of the kind asked for"},
         {"TOOBIG", "the file has more than 4,294,967,295 bytes, or the index too many entries to be kept"},
         {"TOOLONG", "a version 1 label cannot hold a length of more than 99,999,999 bytes"},
         {"BADSTART", "the first record's place is beyond the file"},
@@ -300,7 +303,7 @@ crest_result crest_row_from_waveform(const uint8_t *file, size_t file_len, uint6
  */
 crest_result crest_row_from_bursts(const uint8_t *file, size_t file_len, uint64_t start, uint64_t from, crest_row *shown);
 
-/* ---- The index of a labelled file ---- */
+/* ---- The index of a labelled file, and what is kept of it ---- */
 
 /*
  * row_index::build_index. Writes the places of the labels of rows 0, 16, 32 and so on.
@@ -318,18 +321,51 @@ crest_result crest_build_index(const uint8_t *file, size_t file_len, bool versio
 crest_result crest_check_index(const uint8_t *file, size_t file_len, bool version_2, const uint32_t *list, size_t list_len);
 
 /*
- * kept::keep. Writes an index as bytes to keep: 6, and 4 for each entry.
+ * kept::keep. Writes an index as bytes to keep, of kind 1: 6, and 4 for each entry.
  * Refuses: TOOBIG for more than 1,073,741,823 entries; SMALL.
  * Writes: the first written bytes of out; written.
  */
 crest_result crest_keep_index(const uint32_t *list, size_t list_len, uint8_t *out, size_t out_len, uint64_t *written);
 
 /*
- * kept::load. Reads an index that was kept. Whether it belongs to a file, crest_check_index says.
- * Refuses: BADKEPT, SMALL.
+ * kept::load. Reads an index that was kept, of kind 1. Whether it belongs to a file, crest_check_index says.
+ * Refuses: BADKEPT, also for kind 2; SMALL.
  * Writes: the first entries numbers of list; entries.
  */
 crest_result crest_load_kept(const uint8_t *bytes, size_t bytes_len, uint32_t *list, size_t list_len, uint64_t *entries);
+
+/*
+ * kept_rows::load. Reads an index that was kept with the row count, of kind 2. Whether both belong to a file, and to one another,
+ * crest_check_kept2 says.
+ * Refuses: BADKEPT, also for kind 1; SMALL.
+ * Writes: the first entries numbers of list; rows, as it stands there; entries.
+ */
+crest_result crest_load_kept2(const uint8_t *bytes, size_t bytes_len, uint32_t *list, size_t list_len, uint64_t *rows,
+                              uint64_t *entries);
+
+/*
+ * kept_check::to_kind_2. Writes a kept index of kind 1 as one of kind 2, with the row count of its file: 10 bytes, and 4 for each
+ * entry.
+ * Refuses: as crest_check_labelled; then BADKEPT; BADINDEX where the list is not the whole index of the file; SMALL.
+ * Writes: the first written bytes of out; written.
+ */
+crest_result crest_convert_1_to_2(const uint8_t *file, size_t file_len, bool version_2, const uint8_t *kept, size_t kept_len,
+                                  uint8_t *out, size_t out_len, uint64_t *written);
+
+/*
+ * kept_rows::to_kind_1. Writes a kept index of kind 2 as one of kind 1, without the row count: 6 bytes, and 4 for each entry.
+ * Refuses: BADKEPT, SMALL.
+ * Writes: the first written bytes of out; written.
+ */
+crest_result crest_convert_2_to_1(const uint8_t *kept, size_t kept_len, uint8_t *out, size_t out_len, uint64_t *written);
+
+/*
+ * kept_check::check. Answers exactly when the file is accepted, kept is an index of kind 2, its list is the whole index of the
+ * file and its row count is the file's.
+ * Refuses: as crest_check_labelled; then BADKEPT, BADINDEX.
+ * Writes: nothing.
+ */
+crest_result crest_check_kept2(const uint8_t *file, size_t file_len, bool version_2, const uint8_t *kept, size_t kept_len);
 
 /* ---- Numbers ---- */
 

@@ -124,6 +124,10 @@ unsafe extern "C" {
     fn crest_check_index(file: *const u8, file_len: usize, version_2: bool, list: *const u32, list_len: usize) -> Outcome;
     fn crest_keep_index(list: *const u32, list_len: usize, out: *mut u8, out_len: usize, written: *mut u64) -> Outcome;
     fn crest_load_kept(bytes: *const u8, bytes_len: usize, list: *mut u32, list_len: usize, entries: *mut u64) -> Outcome;
+    fn crest_load_kept2(bytes: *const u8, bytes_len: usize, list: *mut u32, list_len: usize, rows: *mut u64, entries: *mut u64) -> Outcome;
+    fn crest_convert_1_to_2(file: *const u8, file_len: usize, version_2: bool, kept: *const u8, kept_len: usize, out: *mut u8, out_len: usize, written: *mut u64) -> Outcome;
+    fn crest_convert_2_to_1(kept: *const u8, kept_len: usize, out: *mut u8, out_len: usize, written: *mut u64) -> Outcome;
+    fn crest_check_kept2(file: *const u8, file_len: usize, version_2: bool, kept: *const u8, kept_len: usize) -> Outcome;
     fn crest_sample(sample: u8) -> i64;
     fn crest_vax_f(bytes: *const u8, bytes_len: usize, number: *mut f64) -> Outcome;
     fn crest_vax_d(bytes: *const u8, bytes_len: usize, number: *mut f64) -> Outcome;
@@ -457,6 +461,77 @@ pub(crate) fn load_kept(bytes: &[u8], list: &mut [u32], entries: &mut u64) -> Ou
 }
 
 #[inline]
+pub(crate) fn load_kept2(
+    bytes: &[u8],
+    list: &mut [u32],
+    rows: &mut u64,
+    entries: &mut u64,
+) -> Outcome {
+    // SAFETY: `bytes` is a shared slice with its length; `list`, `rows` and `entries` are lent alone.
+    unsafe {
+        crest_load_kept2(
+            bytes.as_ptr(),
+            bytes.len(),
+            list.as_mut_ptr(),
+            list.len(),
+            rows,
+            entries,
+        )
+    }
+}
+
+#[inline]
+pub(crate) fn convert_1_to_2(
+    file: &[u8],
+    version_2: bool,
+    kept: &[u8],
+    out: &mut [u8],
+    written: &mut u64,
+) -> Outcome {
+    // SAFETY: `file` and `kept` are shared slices with their lengths; `out` and `written` are lent alone.
+    unsafe {
+        crest_convert_1_to_2(
+            file.as_ptr(),
+            file.len(),
+            version_2,
+            kept.as_ptr(),
+            kept.len(),
+            out.as_mut_ptr(),
+            out.len(),
+            written,
+        )
+    }
+}
+
+#[inline]
+pub(crate) fn convert_2_to_1(kept: &[u8], out: &mut [u8], written: &mut u64) -> Outcome {
+    // SAFETY: `kept` is a shared slice with its length; `out` and `written` are lent alone.
+    unsafe {
+        crest_convert_2_to_1(
+            kept.as_ptr(),
+            kept.len(),
+            out.as_mut_ptr(),
+            out.len(),
+            written,
+        )
+    }
+}
+
+#[inline]
+pub(crate) fn check_kept2(file: &[u8], version_2: bool, kept: &[u8]) -> Outcome {
+    // SAFETY: `file` and `kept` are shared slices with their lengths.
+    unsafe {
+        crest_check_kept2(
+            file.as_ptr(),
+            file.len(),
+            version_2,
+            kept.as_ptr(),
+            kept.len(),
+        )
+    }
+}
+
+#[inline]
 pub(crate) fn sample(sample: u8) -> i64 {
     // SAFETY: a number goes in and a number comes back; no memory is lent.
     unsafe { crest_sample(sample) }
@@ -560,6 +635,10 @@ mod tests {
         Outcome { refusal, place: 0 }
     }
 
+    /// Kept indexes of no entries, of both kinds.
+    const EMPTY_1: [u8; 6] = [2, 0, 0, 0, 1, 0];
+    const EMPTY_2: [u8; 10] = [6, 0, 0, 0, 2, 0, 0, 0, 0, 0];
+
     /// The header allows a null pointer with length 0, which no slice has.
     #[test]
     fn an_empty_slice_may_be_a_null_pointer() {
@@ -578,8 +657,8 @@ mod tests {
         };
         let mut shown = sevens;
         let heads = [(1, b"NJPL1I00DEMO"), (2, b"NJPL2I00DEMO")];
-        // SAFETY: each pointer with a length is null with length 0, or that of a head with its
-        // length; the others point to the variables above, no two of a call to the same.
+        // SAFETY: each pointer with a length is null with length 0, or that of a head or of a kept
+        // index with its length; the others point to the variables above, no two of a call to the same.
         unsafe {
             for version_2 in [false, true] {
                 let label = crest_read_label(
@@ -601,6 +680,23 @@ mod tests {
                 assert_eq!(jumped, refused(6));
                 let row = crest_row_from_labelled(null(), 0, version_2, 0, &mut shown);
                 assert_eq!(row, refused(6));
+                // No file and no record; no file, a record of no entries and no room.
+                let kept = crest_check_kept2(null(), 0, version_2, null(), 0);
+                assert_eq!(kept, refused(13));
+                let no_room = null_mut();
+                for (kept, length, refusal) in [(null(), 0, 13), (EMPTY_1.as_ptr(), 6, 8)] {
+                    let kept = crest_convert_1_to_2(
+                        null(),
+                        0,
+                        version_2,
+                        kept,
+                        length,
+                        no_room,
+                        0,
+                        &mut one,
+                    );
+                    assert_eq!(kept, refused(refusal));
+                }
             }
             for (version, head) in heads {
                 let written = crest_write_label(version, null(), 0, 0, null_mut(), 0, &mut one);
@@ -645,6 +741,12 @@ mod tests {
             assert_eq!(kept, refused(8));
             let loaded = crest_load_kept(null(), 0, null_mut(), 0, &mut one);
             assert_eq!(loaded, refused(13));
+            let loaded = crest_load_kept2(null(), 0, null_mut(), 0, &mut one, &mut two);
+            assert_eq!(loaded, refused(13));
+            for (kept, length, refusal) in [(null(), 0, 13), (EMPTY_2.as_ptr(), 10, 8)] {
+                let kept = crest_convert_2_to_1(kept, length, null_mut(), 0, &mut one);
+                assert_eq!(kept, refused(refusal));
+            }
             assert_eq!((one, two, three, four), (7, 7, 7, 7));
             assert_eq!(shown, sevens);
             assert_eq!((start, stop), (7.0, 7.0));
@@ -661,7 +763,15 @@ mod tests {
                 assert_eq!((built, one, two), (ANSWERED, 0, 0));
                 let index = crest_check_index(null(), 0, version_2, null(), 0);
                 assert_eq!(index, ANSWERED);
+                let kept = crest_check_kept2(null(), 0, version_2, EMPTY_2.as_ptr(), 10);
+                assert_eq!(kept, ANSWERED);
             }
+            (one, two) = (7, 7);
+            let loaded = crest_load_kept(EMPTY_1.as_ptr(), 6, null_mut(), 0, &mut one);
+            assert_eq!((loaded, one), (ANSWERED, 0));
+            one = 7;
+            let loaded = crest_load_kept2(EMPTY_2.as_ptr(), 10, null_mut(), 0, &mut one, &mut two);
+            assert_eq!((loaded, one, two), (ANSWERED, 0, 0));
             one = 7;
             let checked = crest_check_waveform(null(), 0, &mut one);
             assert_eq!((checked, one), (ANSWERED, 0));

@@ -692,6 +692,187 @@ fn load_kept() {
     }
 }
 
+/// A kept index of kind 1, of these entries.
+fn kept_1(entries: &[u32]) -> Vec<u8> {
+    let length = 2 + 4 * entries.len() as u32;
+    let entries = entries.iter().flat_map(|entry| entry.to_le_bytes());
+    let front = length.to_le_bytes().into_iter().chain([1, 0]);
+    front.chain(entries).collect()
+}
+
+/// A kept index of kind 2, of this row count and these entries.
+fn kept_2(rows: u32, entries: &[u32]) -> Vec<u8> {
+    let length = 6 + 4 * entries.len() as u32;
+    let numbers = [&[rows], entries].concat();
+    let numbers = numbers.iter().flat_map(|number| number.to_le_bytes());
+    let front = length.to_le_bytes().into_iter().chain([2, 0]);
+    front.chain(numbers).collect()
+}
+
+/// Bytes that are no kept index of kind 2, among them all that are too short and one of kind 1.
+fn no_kept_2() -> Vec<Vec<u8>> {
+    let right = kept_2(17, &[20, 340]);
+    let mut wrong: Vec<Vec<u8>> = (0..right.len())
+        .map(|size| right[..size].to_vec())
+        .collect();
+    for (place, byte) in [
+        (0, 13),
+        (0, 15),
+        (0, 18),
+        (1, 1),
+        (3, 128),
+        (4, 0),
+        (4, 1),
+        (4, 3),
+        (5, 1),
+    ] {
+        let mut other = right.clone();
+        other[place] = byte;
+        wrong.push(other);
+    }
+    for behind in 1..=4 {
+        wrong.push([&right[..], &[0; 4][..behind]].concat());
+    }
+    // A part of an entry, or of the row count, that is counted in.
+    for length in [2, 3, 4, 5, 15, 16, 17] {
+        let mut other = [&right[..], &[0; 3]].concat();
+        other[0] = length;
+        other.truncate(4 + usize::from(length));
+        wrong.push(other);
+    }
+    wrong.push(kept_1(&[20, 340]));
+    wrong
+}
+
+#[test]
+fn load_kept2() {
+    let kept = kept_2(17, &[20, 0x0403_0201]);
+    let most = kept_2(u32::MAX, &[]);
+    for (bytes, size, expected) in [
+        (&kept, 2, Ok((vec![20, 0x0403_0201], (17, 2)))),
+        (&kept, 4, Ok((vec![20, 0x0403_0201], (17, 2)))),
+        (&kept, 1, Err(refused(8, 0))),
+        (&kept, 0, Err(refused(8, 0))),
+        (&most, 0, Ok((vec![], (0xffff_ffff, 0)))),
+        (&most, 3, Ok((vec![], (0xffff_ffff, 0)))),
+    ] {
+        answers_with("load_kept2", size, expected, |list, rows, entries| {
+            ffi::load_kept2(bytes, list, rows, entries)
+        });
+    }
+    for (bytes, size) in no_kept_2()
+        .iter()
+        .flat_map(|bytes| [(bytes, 0), (bytes, 4)])
+    {
+        let expected = Err(refused(13, 0));
+        answers_with("load_kept2", size, expected, |list, rows, entries| {
+            ffi::load_kept2(bytes, list, rows, entries)
+        });
+    }
+    fills("load_kept", 4, Err(refused(13, 0)), |list, entries| {
+        ffi::load_kept(&kept, list, entries)
+    });
+}
+
+#[test]
+fn convert_1_to_2() {
+    let (right, wrong) = (kept_1(&[20]), kept_1(&[21]));
+    let (none, kind_2) = (kept_1(&[]), kept_2(2, &[20]));
+    let kept = || Ok(kept_2(2, &[20]));
+    for (bytes, size, expected) in [
+        (&right, 14, kept()),
+        (&right, 17, kept()),
+        (&right, 13, Err(refused(8, 0))),
+        (&right, 0, Err(refused(8, 0))),
+        (&wrong, 14, Err(refused(11, 0))),
+        (&wrong, 0, Err(refused(11, 0))),
+        (&none, 14, Err(refused(11, 0))),
+        (&kept_1(&[20, 20]), 20, Err(refused(11, 0))),
+        (&kind_2, 14, Err(refused(13, 0))),
+        (&right[..9].to_vec(), 14, Err(refused(13, 0))),
+        (&wrong[..9].to_vec(), 0, Err(refused(13, 0))),
+        (&vec![], 0, Err(refused(13, 0))),
+    ] {
+        for (file, version_2) in ACCEPTED {
+            let expected = expected.clone();
+            fills("convert_1_to_2", size, expected, |out, written| {
+                ffi::convert_1_to_2(file, version_2, bytes, out, written)
+            });
+        }
+    }
+    for version_2 in [false, true] {
+        fills("convert_1_to_2", 12, Ok(kept_2(0, &[])), |out, written| {
+            ffi::convert_1_to_2(&[], version_2, &none, out, written)
+        });
+    }
+    // A fault of the file comes before all that is wrong with the rest.
+    let late = (MIXED.to_vec(), false, refused(2, 43));
+    for (file, version_2, outcome) in refused_files().into_iter().chain([late]) {
+        for (bytes, size) in [(&right, 14), (&wrong, 14), (&kind_2, 14), (&vec![], 0)] {
+            fills("convert_1_to_2", size, Err(outcome), |out, written| {
+                ffi::convert_1_to_2(&file, version_2, bytes, out, written)
+            });
+        }
+    }
+}
+
+#[test]
+fn convert_2_to_1() {
+    let kept = kept_2(17, &[20, 0x0403_0201]);
+    let converted = || Ok(kept_1(&[20, 0x0403_0201]));
+    for (bytes, size, expected) in [
+        (&kept, 14, converted()),
+        (&kept, 18, converted()),
+        (&kept, 13, Err(refused(8, 0))),
+        (&kept, 0, Err(refused(8, 0))),
+        (&kept_2(u32::MAX, &[]), 7, Ok(kept_1(&[]))),
+        (&kept_2(0, &[u32::MAX]), 10, Ok(kept_1(&[u32::MAX]))),
+    ] {
+        fills("convert_2_to_1", size, expected, |out, written| {
+            ffi::convert_2_to_1(bytes, out, written)
+        });
+    }
+    for (bytes, size) in no_kept_2()
+        .iter()
+        .flat_map(|bytes| [(bytes, 0), (bytes, 40)])
+    {
+        fills(
+            "convert_2_to_1",
+            size,
+            Err(refused(13, 0)),
+            |out: &mut [u8], written| ffi::convert_2_to_1(bytes, out, written),
+        );
+    }
+}
+
+#[test]
+fn check_kept2() {
+    let right = kept_2(2, &[20]);
+    for (file, version_2) in ACCEPTED {
+        assert_eq!(ffi::check_kept2(file, version_2, &right), ANSWERED);
+        for rows in [0, 1, 3, 16, 0x0200_0000, 0x0102, u32::MAX] {
+            let kept = kept_2(rows, &[20]);
+            assert_eq!(ffi::check_kept2(file, version_2, &kept), refused(11, 0));
+        }
+        for list in [&[][..], &[21], &[20, 20], &[20 << 24]] {
+            let kept = kept_2(2, list);
+            assert_eq!(ffi::check_kept2(file, version_2, &kept), refused(11, 0));
+        }
+        for kept in no_kept_2().iter().chain([&kept_1(&[20])]) {
+            assert_eq!(ffi::check_kept2(file, version_2, kept), refused(13, 0));
+        }
+        let empty = kept_2(0, &[]);
+        assert_eq!(ffi::check_kept2(&[], version_2, &empty), ANSWERED);
+    }
+    for (file, version_2, outcome) in refused_files() {
+        for kept in [&right, &kept_2(3, &[21]), &vec![]] {
+            assert_eq!(ffi::check_kept2(&file, version_2, kept), outcome);
+        }
+    }
+    assert_eq!(ffi::check_kept2(DEMO_2, false, &right), refused(2, 0));
+    assert_eq!(ffi::check_kept2(MIXED, false, &right), refused(2, 43));
+}
+
 #[test]
 fn vax_numbers() {
     let one = [0x80, 0x40, 0, 0, 0, 0, 0, 0];

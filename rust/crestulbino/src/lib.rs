@@ -85,7 +85,8 @@ pub use file::{
     Nesting, Row, Rows, Window,
 };
 pub use index::{
-    build_index, check_index, keep_index, load_kept, Built, KEPT_FRONT_BYTES, ROWS_PER_ENTRY,
+    build_index, check_index, check_kept2, convert_1_to_2, convert_2_to_1, keep_index, load_kept,
+    load_kept2, Built, Kept2, KEPT2_FRONT_BYTES, KEPT_FRONT_BYTES, ROWS_PER_ENTRY,
 };
 pub use label::{read_label, write_label, Label, Version, Versions, LABEL_BYTES};
 pub use numbers::{opening, sample, vax_d, vax_d_dropped, vax_f, verdict, Opening, Verdict};

@@ -29,11 +29,11 @@ pub enum Refusal {
     Reserved = 9,
     /// There is no such field, or the element or field has no limits.
     Unknown = 10,
-    /// The list is not the index of this file.
+    /// The list is not the index of this file, or the row count is not this file's.
     BadIndex = 11,
     /// The waveform file is no multiple of 2,080 bytes, or the rest of the burst file none of 1,272.
     Ragged = 12,
-    /// These bytes are no kept index.
+    /// These bytes are no kept index of the kind asked for.
     BadKept = 13,
     /// The file has more than 4,294,967,295 bytes, or the index too many entries to be kept.
     TooBig = 14,
@@ -132,12 +132,18 @@ impl Refusal {
                 "UNKNOWN",
                 "there is no such field, or the element or field has no limits",
             ),
-            Refusal::BadIndex => ("BADINDEX", "the list is not the index of this file"),
+            Refusal::BadIndex => (
+                "BADINDEX",
+                "the list is not the index of this file, or the row count is not this file's",
+            ),
             Refusal::Ragged => (
                 "RAGGED",
                 "the waveform file is no multiple of 2,080 bytes, or the rest of the burst file none of 1,272",
             ),
-            Refusal::BadKept => ("BADKEPT", "these bytes are no kept index"),
+            Refusal::BadKept => (
+                "BADKEPT",
+                "these bytes are no kept index of the kind asked for",
+            ),
             Refusal::TooBig => (
                 "TOOBIG",
                 "the file has more than 4,294,967,295 bytes, or the index too many entries to be kept",

@@ -1,7 +1,8 @@
 //! The C header beside the declarations and the words of this crate.
 
 use crestulbino::{
-    Mode, Refusal, BURST_BYTES, BURST_FIELDS, KEPT_FRONT_BYTES, LABEL_BYTES, ROWS_PER_ENTRY,
+    Mode, Refusal, BURST_BYTES, BURST_FIELDS, KEPT2_FRONT_BYTES, KEPT_FRONT_BYTES, LABEL_BYTES,
+    ROWS_PER_ENTRY,
 };
 
 const HEADER: &str = include_str!("../../../include/crestulbino.h");
@@ -105,7 +106,7 @@ fn declared_functions() -> Vec<Function> {
 #[test]
 fn declarations_are_those_of_the_header_in_its_order() {
     let header = header_functions();
-    assert_eq!(header.len(), 28);
+    assert_eq!(header.len(), 32);
     assert_eq!(declared_functions(), header);
 }
 
@@ -175,6 +176,7 @@ fn sizes_are_the_header_s() {
         ("LABEL_BYTES", LABEL_BYTES),
         ("ROWS_PER_ENTRY", ROWS_PER_ENTRY),
         ("KEPT_FRONT_BYTES", KEPT_FRONT_BYTES),
+        ("KEPT2_FRONT_BYTES", KEPT2_FRONT_BYTES),
         ("BURST_BYTES", BURST_BYTES),
         ("BURST_FIELDS", BURST_FIELDS as usize),
     ] {
