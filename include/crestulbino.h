@@ -335,8 +335,7 @@ crest_result crest_keep_index(const uint32_t *list, size_t list_len, uint8_t *ou
 crest_result crest_load_kept(const uint8_t *bytes, size_t bytes_len, uint32_t *list, size_t list_len, uint64_t *entries);
 
 /*
- * kept_rows::load. Reads an index that was kept with the row count, of kind 2. Whether both belong to a file, and to one another,
- * crest_check_kept2 says.
+ * kept_rows::load. Reads an index that was kept with the row count, of kind 2. Whether both belong to a file, crest_check_kept2 says.
  * Refuses: BADKEPT, also for kind 1; SMALL.
  * Writes: the first entries numbers of list; rows, as it stands there; entries.
  */
