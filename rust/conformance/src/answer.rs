@@ -98,16 +98,33 @@ pub fn answer(library: &Library, case: &Case) -> String {
             file,
             list,
             versions,
-        } => match (library.check_index)(*versions, file, list) {
-            Ok(()) => "ok".to_string(),
-            Err(refused) => refusal(refused),
-        },
+        } => accepted((library.check_index)(*versions, file, list)),
         Case::KeepIndex { list, buffer } => {
             writes(buffer, Bytes, |buffer| (library.keep_index)(list, buffer))
         }
         Case::LoadKept { bytes, list } => {
             writes(list, List, |list| (library.load_kept)(bytes, list))
         }
+        Case::LoadKept2 { bytes, list } => writes(list, List, |list| {
+            let loaded = (library.load_kept2)(bytes, list)?;
+            Ok(format!("{} {}", loaded.rows, loaded.entries))
+        }),
+        Case::Convert1To2 {
+            file,
+            kept,
+            buffer,
+            versions,
+        } => writes(buffer, Bytes, |buffer| {
+            (library.convert_1_to_2)(*versions, file, kept, buffer)
+        }),
+        Case::Convert2To1 { kept, buffer } => writes(buffer, Bytes, |buffer| {
+            (library.convert_2_to_1)(kept, buffer)
+        }),
+        Case::CheckKept2 {
+            file,
+            kept,
+            versions,
+        } => accepted((library.check_kept2)(*versions, file, kept)),
         Case::Sample { byte } => line(Ok((library.sample)(*byte))),
         Case::VaxF { bytes } => line((library.vax_f)(bytes).map(Float)),
         Case::VaxD { bytes } => line((library.vax_d)(bytes).map(Float)),
@@ -146,6 +163,10 @@ pub fn answer(library: &Library, case: &Case) -> String {
             None => "ok unnamed".to_string(),
         },
     }
+}
+
+fn accepted(answer: Result<(), Refused>) -> String {
+    answer.map_or_else(refusal, |()| "ok".to_string())
 }
 
 fn judged(verdict: Result<Verdict, Refused>) -> String {

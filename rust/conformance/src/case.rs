@@ -84,6 +84,10 @@ cases! {
     "check_index" CheckIndex { file: Vec<u8>, list: Vec<u32>, versions: Versions }
     "keep_index" KeepIndex { list: Vec<u32>, buffer: Vec<u8> }
     "load_kept" LoadKept { bytes: Vec<u8>, list: Vec<u32> }
+    "load_kept2" LoadKept2 { bytes: Vec<u8>, list: Vec<u32> }
+    "convert_1_to_2" Convert1To2 { file: Vec<u8>, kept: Vec<u8>, buffer: Vec<u8>, versions: Versions }
+    "convert_2_to_1" Convert2To1 { kept: Vec<u8>, buffer: Vec<u8> }
+    "check_kept2" CheckKept2 { file: Vec<u8>, kept: Vec<u8>, versions: Versions }
     "sample" Sample { byte: u8 }
     "vax_f" VaxF { bytes: Vec<u8> }
     "vax_d" VaxD { bytes: Vec<u8> }
@@ -114,6 +118,10 @@ mod tests {
             "jump_labelled 00 7,4294967295 1 2 3 2",
             "build_index 00 7 1",
             "check_index 00 - 2",
+            "load_kept2 00ff 7,4294967295",
+            "convert_1_to_2 00 01 02ff 1",
+            "convert_2_to_1 00 -",
+            "check_kept2 - 00 2",
             "row_from labelled1 00 5",
             "row_from labelled2 00 5",
             "row_from waveform - 0",
@@ -144,6 +152,8 @@ mod tests {
                 format!("jump_labelled - - 0 0 0 {versions}"),
                 format!("build_index - - {versions}"),
                 format!("check_index - - {versions}"),
+                format!("convert_1_to_2 - - - {versions}"),
+                format!("check_kept2 - - {versions}"),
             ] {
                 assert_eq!(Case::parse(line.as_bytes()), None, "{line}");
             }
@@ -194,6 +204,10 @@ mod tests {
             ),
             ("write_label 2 0102 12 0304", "write_label 1 - 0 -"),
             ("check_labelled 01 1", "check_labelled - 1"),
+            ("load_kept2 0102 3,4", "load_kept2 - -"),
+            ("convert_1_to_2 01 02 03 2", "convert_1_to_2 - - - 1"),
+            ("convert_2_to_1 0102 03", "convert_2_to_1 - -"),
+            ("check_kept2 01 0203 2", "check_kept2 - - 1"),
             ("row_from waveform 0102 77", "row_from waveform - 0"),
             ("row_from labelled2 0102 77", "row_from labelled1 - 0"),
             ("row_from bursts:12 0102 77", "row_from bursts:0 - 0"),

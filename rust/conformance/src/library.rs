@@ -5,8 +5,8 @@ mod second;
 pub use second::INDEPENDENT;
 
 use crestulbino::{
-    Beams, Built, Field, Kind, Label, Mode, Opening, Refused, Row, Verdict, Version, Versions,
-    Window,
+    Beams, Built, Field, Kept2, Kind, Label, Mode, Opening, Refused, Row, Verdict, Version,
+    Versions, Window,
 };
 
 /// What a call comes to.
@@ -30,6 +30,10 @@ pub struct Library {
     pub check_index: fn(Versions, &[u8], &[u32]) -> Answer<()>,
     pub keep_index: fn(&[u32], &mut [u8]) -> Answer<usize>,
     pub load_kept: fn(&[u8], &mut [u32]) -> Answer<usize>,
+    pub load_kept2: fn(&[u8], &mut [u32]) -> Answer<Kept2>,
+    pub convert_1_to_2: fn(Versions, &[u8], &[u8], &mut [u8]) -> Answer<usize>,
+    pub convert_2_to_1: fn(&[u8], &mut [u8]) -> Answer<usize>,
+    pub check_kept2: fn(Versions, &[u8], &[u8]) -> Answer<()>,
     pub sample: fn(u8) -> i64,
     pub vax_f: fn(&[u8]) -> Answer<f64>,
     pub vax_d: fn(&[u8]) -> Answer<f64>,
@@ -56,6 +60,10 @@ pub const PROVED: Library = Library {
     check_index: crestulbino::check_index,
     keep_index: crestulbino::keep_index,
     load_kept: crestulbino::load_kept,
+    load_kept2: crestulbino::load_kept2,
+    convert_1_to_2: crestulbino::convert_1_to_2,
+    convert_2_to_1: crestulbino::convert_2_to_1,
+    check_kept2: crestulbino::check_kept2,
     sample: crestulbino::sample,
     vax_f: crestulbino::vax_f,
     vax_d: crestulbino::vax_d,

@@ -2,8 +2,8 @@
 
 use super::Library;
 use crestulbino::{
-    Address, Beams, Built, Field, Kind, Label, Mode, Nesting, Opening, Refusal, Refused, Row, Text,
-    Verdict, Version, Versions, Window,
+    Address, Beams, Built, Field, Kept2, Kind, Label, Mode, Nesting, Opening, Refusal, Refused,
+    Row, Text, Verdict, Version, Versions, Window,
 };
 use independent::refusal::{self, Reason};
 use independent::{
@@ -76,6 +76,20 @@ pub const INDEPENDENT: Library = Library {
     },
     keep_index: |list, buffer| count(kept::keep(list, buffer)),
     load_kept: |bytes, list| count(kept::load(bytes, list)),
+    load_kept2: |bytes, list| {
+        let loaded = kept::load_counted(bytes, list).map_err(refused)?;
+        Ok(Kept2 {
+            rows: loaded.rows as usize,
+            entries: loaded.entries as usize,
+        })
+    },
+    convert_1_to_2: |versions, file, kept, buffer| {
+        count(kept::add_count(taken(versions), file, kept, buffer))
+    },
+    convert_2_to_1: |kept, buffer| count(kept::drop_count(kept, buffer)),
+    check_kept2: |versions, file, kept| {
+        kept::check_counted(taken(versions), file, kept).map_err(refused)
+    },
     sample: |byte| waveform::sample(byte).into(),
     vax_f: |bytes| vax::f_float(bytes).map_err(refused),
     vax_d: |bytes| vax::d_float(bytes).map_err(refused),
