@@ -82,7 +82,7 @@ pub fn wrapping_row(random: &mut Random) -> usize {
 
 /// How much memory to lend where `need` is needed: one too little, as much,
 /// or more.
-fn room(random: &mut Random, need: usize) -> usize {
+pub fn room(random: &mut Random, need: usize) -> usize {
     match random.between(0, 9) {
         0..=2 => need.saturating_sub(1),
         3..=5 => need,
@@ -100,7 +100,7 @@ pub fn buffer(random: &mut Random, need: usize) -> Vec<u8> {
 
 pub fn list(random: &mut Random, need: usize) -> Vec<u32> {
     let room = room(random, need);
-    (0..room).map(|_| random.draw() as u32).collect()
+    random.numbers(room)
 }
 
 /// A place from which to go on in a file of so many bytes: one of those given, the file's end, a

@@ -203,7 +203,7 @@ impl LabelledFile {
 }
 
 /// Which labels of a file are of version 2.
-#[derive(Clone, Copy, Debug)]
+#[derive(Clone, Copy, Debug, PartialEq, Eq)]
 pub enum Mix {
     None,
     All,
@@ -229,7 +229,7 @@ impl Mix {
     }
 
     /// Labels that do not keep a call from what stands among them.
-    fn allowed(versions: Versions, random: &mut Random) -> Mix {
+    pub fn allowed(versions: Versions, random: &mut Random) -> Mix {
         match versions {
             Versions::One => Mix::None,
             Versions::OneAndTwo => Mix::any(random),
@@ -450,14 +450,13 @@ fn stairs(random: &mut Random) -> Vec<Object> {
     objects
 }
 
-/// A file whose later rows stand beyond 65,536.
-fn large(random: &mut Random) -> Vec<Object> {
-    let before = random.between(0, 17);
+/// A file whose later rows stand beyond 65,536, or around it, with so many rows before the large one
+/// and after it.
+fn large(random: &mut Random, before: usize, after: usize) -> Vec<Object> {
     let mut objects = forest(random, before, 1, 10);
     let size = random.between(64_000, 66_000);
     let value = random.bytes(size);
     objects.push(leaf_of(random, value));
-    let after = random.between(1, 20);
     objects.extend(forest(random, after, 1, 10));
     objects
 }
@@ -551,9 +550,37 @@ pub fn labelled_with(mix: Mix, random: &mut Random) -> LabelledFile {
             let leaves = random.between(0, 6);
             written(&forest(random, leaves, 1, 50))
         }
-        Shape::Large => written(&large(random)),
+        Shape::Large => {
+            let (before, after) = (random.between(0, 17), random.between(1, 20));
+            written(&large(random, before, after))
+        }
     };
     file.relabelled(mix, random)
+}
+
+/// A file of so many rows, none of them or some of them in groups.
+pub fn with_rows(rows: usize, is_nested: bool, mix: Mix, random: &mut Random) -> LabelledFile {
+    let objects = if is_nested {
+        let outside = random.between(0, rows / 2);
+        let mut objects = forest(random, outside, 1, 30);
+        let inside = forest(random, rows - outside, 2, 30);
+        objects.push(group(random, inside));
+        objects
+    } else {
+        forest(random, rows, 1, 0)
+    };
+    written(&objects).relabelled(mix, random)
+}
+
+/// A file with an entry of its index beyond 65,536.
+pub fn with_large_entry(mix: Mix, random: &mut Random) -> LabelledFile {
+    loop {
+        let (before, after) = (random.between(0, 15), random.between(16, 20));
+        let file = written(&large(random, before, after)).relabelled(mix, random);
+        if file.index().iter().any(|&entry| entry > 65_536) {
+            return file;
+        }
+    }
 }
 
 /// An object that ends where what encloses it ends, but for what its length field holds.

@@ -4,6 +4,7 @@ mod bad_lines;
 mod bursts;
 mod edges;
 pub mod files;
+mod kept;
 pub mod published;
 pub mod random;
 
@@ -31,6 +32,7 @@ pub struct Generator {
     binary_objects: Deck<(Option<CallAt>, LastObject)>,
     classed: Deck<Classed>,
     versioned: Deck<(Versioned, Versions)>,
+    kept: Deck<kept::Asked>,
     head_harms: Deck<(usize, u8)>,
     written: Deck<Written>,
     samples: Deck<u8>,
@@ -96,7 +98,7 @@ type Call = fn(&mut Generator) -> Case;
 
 /// How often each call is asked in a thousand lines. A deck that one of them deals from alone has
 /// no more than ten times as many cards.
-const CALLS: [(usize, Call); 39] = [
+const CALLS: [(usize, Call); 40] = [
     (26, Generator::read_spaces_and_digits),
     (3, Generator::read_binary_text),
     (9, Generator::read_binary_length),
@@ -104,33 +106,34 @@ const CALLS: [(usize, Call); 39] = [
     (5, Generator::read_cut_label),
     (17, Generator::write_label),
     (13, Generator::write_harmed_head),
-    (7, Generator::write_any_head),
-    (31, Generator::check_labelled),
-    (5, Generator::check_waveform),
-    (36, Generator::read_row_labelled),
-    (10, Generator::read_row_waveform),
-    (47, Generator::jump_labelled),
-    (10, Generator::jump_waveform),
-    (30, Generator::row_from_labelled),
-    (11, Generator::row_from_waveform),
-    (28, Generator::build_index),
-    (28, Generator::check_index),
-    (63, Generator::last_object),
-    (65, Generator::binary_object),
+    (6, Generator::write_any_head),
+    (26, Generator::check_labelled),
+    (4, Generator::check_waveform),
+    (29, Generator::read_row_labelled),
+    (8, Generator::read_row_waveform),
+    (39, Generator::jump_labelled),
+    (8, Generator::jump_waveform),
+    (24, Generator::row_from_labelled),
+    (8, Generator::row_from_waveform),
+    (22, Generator::build_index),
+    (22, Generator::check_index),
+    (73, Generator::last_object),
+    (74, Generator::binary_object),
     (42, Generator::classed),
     (7, Generator::versioned),
-    (11, Generator::keep_index),
-    (18, Generator::load_kept),
+    (9, Generator::keep_index),
+    (15, Generator::kept_record),
+    (46, Generator::kept_edge),
     (26, Generator::sample),
-    (13, Generator::vax_f),
-    (15, Generator::vax_d),
+    (10, Generator::vax_f),
+    (12, Generator::vax_d),
     (35, Generator::vax_d_rounded),
-    (15, Generator::opening),
+    (13, Generator::opening),
     (57, Generator::verdict_at_limit),
-    (9, Generator::verdict),
+    (6, Generator::verdict),
     (12, Generator::verdict_unknown),
     (24, Generator::burst_edge),
-    (10, |generator| bursts::row(&mut generator.random)),
+    (8, |generator| bursts::row(&mut generator.random)),
     (128, Generator::burst_field),
     (24, Generator::burst_limit),
     (24, Generator::burst_unknown),
@@ -148,8 +151,8 @@ const CHOICES: [Versions; 2] = [Versions::One, Versions::OneAndTwo];
 /// A call on a file, above all on the object at a place of it.
 type CallAt = fn(&mut Generator, LabelledFile, usize, Versions) -> Case;
 
-/// The calls that go through a labelled file.
-const CALLS_AT: [CallAt; 6] = [
+/// The calls that go through a labelled file; those that are lent a kept index with it are one of them.
+const CALLS_AT: [CallAt; 7] = [
     |_, file, _, versions| Case::CheckLabelled {
         file: file.bytes,
         versions,
@@ -159,13 +162,14 @@ const CALLS_AT: [CallAt; 6] = [
     Generator::row_from_at,
     Generator::build_index_at,
     Generator::check_index_at,
+    |generator, file, _, versions| kept::of_file(file, versions, &mut generator.random),
 ];
 
 /// Calls with short lines, to be spoilt. They take no card from a deck whose
 /// every card should become a case.
 const SPOILT_CALLS: [Call; 4] = [
     Generator::keep_index,
-    Generator::load_kept,
+    Generator::kept_record,
     Generator::vax_d,
     Generator::opening,
 ];
@@ -193,6 +197,7 @@ impl Generator {
             binary_objects: Deck::new(binary_objects()),
             classed: Deck::new(files::classed()),
             versioned: Deck::new(told_each(&files::versioned())),
+            kept: Deck::new(kept::asked()),
             head_harms: Deck::new(odd_bytes(12)),
             written: Deck::new(written()),
             samples: Deck::new((0..=255).collect()),
@@ -581,21 +586,18 @@ impl Generator {
     }
 
     fn keep_index(&mut self) -> Case {
-        let list = self.entries();
+        let list = kept::any_entries(&mut self.random);
         let buffer = edges::buffer(&mut self.random, 6 + 4 * list.len());
         Case::KeepIndex { list, buffer }
     }
 
-    fn load_kept(&mut self) -> Case {
-        let entries = self.entries();
-        let mut bytes = (2 + 4 * entries.len() as u32).to_le_bytes().to_vec();
-        bytes.extend([1, 0]);
-        bytes.extend(entries.iter().flat_map(|entry| entry.to_le_bytes()));
-        if self.random.chance(55) {
-            self.harm_kept(&mut bytes);
-        }
-        let list = edges::list(&mut self.random, entries.len());
-        Case::LoadKept { bytes, list }
+    fn kept_record(&mut self) -> Case {
+        kept::any_record(&mut self.random)
+    }
+
+    fn kept_edge(&mut self) -> Case {
+        let asked = self.kept.deal(&mut self.random);
+        asked.case(&mut self.random)
     }
 
     fn sample(&mut self) -> Case {
@@ -816,46 +818,6 @@ impl Generator {
             _ => self.random.between(0, end),
         };
         place as u32
-    }
-
-    /// Some numbers to keep; rarely as many as a case may hold.
-    fn entries(&mut self) -> Vec<u32> {
-        let count = match self.random.between(0, 99) {
-            0 => 4_096,
-            1..=4 => 300,
-            _ => self.random.pick(&[0, 1, 2, 3, 7]),
-        };
-        (0..count)
-            .map(|_| match self.random.between(0, 3) {
-                0 => self.random.pick(&[0, 1, 20, 65_535, 65_536, u32::MAX]),
-                _ => self.random.draw() as u32,
-            })
-            .collect()
-    }
-
-    /// Damages a kept index: its size, its length field, its kind, or its
-    /// size and length together.
-    fn harm_kept(&mut self, bytes: &mut Vec<u8>) {
-        let size = bytes.len();
-        match self.random.between(0, 8) {
-            0 => bytes.truncate(self.random.between(0, 5)),
-            1 => bytes.truncate(size - self.random.between(1, 4)),
-            2 => bytes.extend([0; 4].iter().take(self.random.between(1, 4))),
-            3 => bytes[0] = bytes[0].wrapping_add(self.random.pick(&[1, 2, 4, 255, 252])),
-            4 => {
-                let high = self.random.between(1, 3);
-                bytes[high] ^= 1 << self.random.between(0, 7);
-            }
-            5 => bytes[4] = self.random.pick(&[0, 2, 3, 255]),
-            6 => bytes[5] = self.random.pick(&[1, 128, 255]),
-            7 => bytes.clear(),
-            _ => {
-                let part = self.random.between(1, 3);
-                bytes.extend([0; 3].iter().take(part));
-                let length = (bytes.len() - 4) as u32;
-                bytes[..4].copy_from_slice(&length.to_le_bytes());
-            }
-        }
     }
 
     /// The bytes of a VAX number of two or four words.
@@ -1102,7 +1064,8 @@ mod tests {
         match words[..] {
             ["row_from", told, ..] if told.starts_with("bursts:") => "row_from bursts".to_string(),
             [call @ ("row_from" | "write_label"), told, ..]
-            | [call @ ("read_label" | "build_index" | "check_index"), .., told] => {
+            | [call @ ("read_label" | "build_index" | "check_index"), .., told]
+            | [call @ ("convert_1_to_2" | "check_kept2"), .., told] => {
                 format!("{call} {told}")
             }
             [call, .., told] if call.ends_with("_labelled") => format!("{call} {told}"),
@@ -1153,6 +1116,7 @@ mod tests {
             assert!(generator.binary_objects.is_through());
             assert!(generator.classed.is_through());
             assert!(generator.versioned.is_through());
+            assert!(generator.kept.is_through());
             assert!(generator.head_harms.is_through());
             assert!(generator.written.is_through());
             assert!(generator.samples.is_through());
@@ -1185,7 +1149,7 @@ mod tests {
             };
             *seen.entry((call, kind)).or_default() += 1;
         }
-        let labelled: [(&str, &[&str]); 7] = [
+        let labelled: [(&str, &[&str]); 9] = [
             ("read_label ", &["ok", "1", "2", "3"]),
             ("check_labelled ", &["ok", "1", "2", "3", "4", "5"]),
             (
@@ -1199,8 +1163,13 @@ mod tests {
             ("row_from labelled", &["ok", "6", "1", "2", "3", "4"]),
             ("build_index ", &["ok", "1", "2", "3", "4", "5", "8"]),
             ("check_index ", &["ok", "1", "2", "3", "4", "5", "11"]),
+            (
+                "convert_1_to_2 ",
+                &["ok", "1", "2", "3", "4", "5", "13", "11", "8"],
+            ),
+            ("check_kept2 ", &["ok", "1", "2", "3", "4", "5", "13", "11"]),
         ];
-        let others: [(&str, &[&str]); 22] = [
+        let others: [(&str, &[&str]); 24] = [
             ("write_label 1", &["ok", "2", "15", "8"]),
             ("write_label 2", &["ok", "2", "8"]),
             ("check_waveform", &["ok", "12"]),
@@ -1209,6 +1178,8 @@ mod tests {
             ("row_from waveform", &["ok", "12", "6"]),
             ("keep_index", &["ok", "8"]),
             ("load_kept", &["ok", "13", "8"]),
+            ("load_kept2", &["ok", "13", "8"]),
+            ("convert_2_to_1", &["ok", "13", "8"]),
             ("sample", &["ok"]),
             ("vax_f", &["ok", "1", "9"]),
             ("vax_d", &["ok", "1", "9"]),
@@ -1247,6 +1218,8 @@ mod tests {
             | Case::JumpLabelled { file, versions, .. }
             | Case::BuildIndex { file, versions, .. }
             | Case::CheckIndex { file, versions, .. }
+            | Case::Convert1To2 { file, versions, .. }
+            | Case::CheckKept2 { file, versions, .. }
             | Case::RowFrom {
                 kind: Kind::Labelled(versions),
                 file,

@@ -60,6 +60,10 @@ impl Random {
         (0..count).map(|_| self.byte()).collect()
     }
 
+    pub fn numbers(&mut self, count: usize) -> Vec<u32> {
+        (0..count).map(|_| self.draw() as u32).collect()
+    }
+
     pub fn shuffle<T>(&mut self, items: &mut [T]) {
         for last in (1..items.len()).rev() {
             items.swap(last, self.between(0, last));
