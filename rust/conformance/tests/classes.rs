@@ -1,7 +1,7 @@
 //! Which classes hold objects, tried with both implementations: each class at each depth, and files
 //! in which the letters Z, U and F are exchanged.
 
-use conformance::generator::{files, random::Random};
+use conformance::generator::{files, kept::record, random::Random};
 use conformance::library::{Library, INDEPENDENT, PROVED};
 use crestulbino::{Kind, Refusal, Refused, Versions, Window};
 
@@ -94,6 +94,11 @@ fn all_answers(library: &Library, versions: Versions, file: &[u8], list: &[u32])
     let checked = (library.check)(kind, file);
     let accepted = (library.check_index)(versions, file, list);
     let mut answers = format!("{checked:?} {index:?} {built:?} {accepted:?}");
+    let mut buffer = [7; 40];
+    let converted = (library.convert_1_to_2)(versions, file, &record(1, list), &mut buffer);
+    let kept = record(2, &[&[checked.unwrap_or(2) as u32], list].concat());
+    let accepted = (library.check_kept2)(versions, file, &kept);
+    answers += &format!(" {converted:?} {buffer:?} {accepted:?}");
     for row in 0..=checked.unwrap_or(2) {
         let window = Window::new(0, row % 3);
         let read = (library.read_row)(kind, file, row, window);

@@ -1,8 +1,9 @@
 //! Every single-byte damage of nested files with groups of all classes, with and without spaces in
 //! their lengths, with labels of version 1, of version 2 and of both: both implementations, told each
-//! choice, say the same of the check, of each row read, of the index, of each jump and of going on
-//! from each label.
+//! choice, say the same of the check, of each row read, of the index, kept or not, of each jump and of
+//! going on from each label.
 
+use conformance::generator::kept::record;
 use conformance::library::{INDEPENDENT, PROVED};
 use crestulbino::{Kind, Versions, Window};
 
@@ -77,6 +78,19 @@ fn assert_same(versions: Versions, file: &[u8], rows: usize, index: &[u32], plac
         assert_eq!(
             (one.check_index)(versions, file, list),
             (other.check_index)(versions, file, list)
+        );
+        let kept = record(1, list);
+        let mut buffers = [[7; 24]; 2];
+        let [buffer, other_buffer] = &mut buffers;
+        assert_eq!(
+            (one.convert_1_to_2)(versions, file, &kept, buffer),
+            (other.convert_1_to_2)(versions, file, &kept, other_buffer)
+        );
+        assert_eq!(buffers[0], buffers[1]);
+        let kept = record(2, &[&[rows as u32], list].concat());
+        assert_eq!(
+            (one.check_kept2)(versions, file, &kept),
+            (other.check_kept2)(versions, file, &kept)
         );
     }
     for row in 0..=rows {

@@ -3,9 +3,12 @@
 //! here reads or writes much of it: a labelled file has 43 labels, the others refuse early or
 //! look at the front only.
 
+use conformance::generator::kept::record;
 use conformance::library::{INDEPENDENT, PROVED};
 use conformance::Library;
-use crestulbino::{Field, Kind, Refusal, Refused, Row, Text, Verdict, Version, Versions, Window};
+use crestulbino::{
+    Field, Kept2, Kind, Refusal, Refused, Row, Text, Verdict, Version, Versions, Window,
+};
 
 const BOTH: [Library; 2] = [INDEPENDENT, PROVED];
 
@@ -70,6 +73,18 @@ fn the_largest_labelled_file() {
             (library.check_index)(versions, &file, &list),
             refused(Refusal::BadIndex)
         );
+        let (mut kept, mut counted) = (record(1, &index), [7; 23]);
+        let written = (library.convert_1_to_2)(versions, &file, &kept, &mut counted);
+        assert_eq!((written, counted[22]), (Ok(22), 7));
+        assert_eq!(counted[..22], record(2, &[&[43], &index[..]].concat()));
+        let checked = (library.check_kept2)(versions, &file, &counted[..22]);
+        assert_eq!(checked, Ok(()));
+        counted[6] = 42;
+        let checked = (library.check_kept2)(versions, &file, &counted[..22]);
+        assert_eq!(checked, refused(Refusal::BadIndex));
+        kept[17] ^= 0x80;
+        let written = (library.convert_1_to_2)(versions, &file, &kept, &mut counted);
+        assert_eq!(written, refused(Refusal::BadIndex));
         for (first, count, expected) in [
             (LAST_LENGTH - 1, 1, Ok((MOST - 1, 1))),
             (LAST_LENGTH, 0, Ok((MOST, 0))),
@@ -132,6 +147,9 @@ fn the_largest_file_in_version_2() {
             let mut list = [7; 2];
             let built = (library.build_index)(Versions::OneAndTwo, &file, &mut list).unwrap();
             assert_eq!((built.entries, built.rows, list), (1, 1, [index[0], 7]));
+            let kept = record(2, &[1, index[0]]);
+            let checked = (library.check_kept2)(Versions::OneAndTwo, &file, &kept);
+            assert_eq!(checked, Ok(()));
             for (first, count, expected) in [
                 (length - 1, 1, Ok((MOST - 1, 1))),
                 (length, 0, Ok((MOST, 0))),
@@ -218,6 +236,16 @@ fn one_byte_more_than_a_file_may_have() {
         assert_eq!(list, [7; 4]);
         let checked = (library.check_index)(versions, &file, &[0]);
         assert_eq!(checked, refused(Refusal::TooBig));
+        // Whatever the kept index and the room.
+        for kept in [record(1, &[0]), record(2, &[1, 0]), record(1, &[]), vec![]] {
+            for size in [14, 10, 0] {
+                let mut buffer = vec![7; size];
+                let written = (library.convert_1_to_2)(versions, &file, &kept, &mut buffer);
+                assert_eq!((written, buffer), (refused(Refusal::TooBig), vec![7; size]));
+            }
+            let checked = (library.check_kept2)(versions, &file, &kept);
+            assert_eq!(checked, refused(Refusal::TooBig));
+        }
     }
 }
 
@@ -376,18 +404,20 @@ fn the_most_entries_to_be_kept() {
     }
 }
 
+/// A record of this size, kind and length, of zeros behind them.
+fn zeros_kept(size: usize, kind: u8, length: u32) -> Vec<u8> {
+    let mut bytes = vec![0; size];
+    bytes[..4].copy_from_slice(&length.to_le_bytes());
+    bytes[4] = kind;
+    bytes
+}
+
 #[test]
 fn kept_indexes_around_the_largest() {
-    let kept = |size: usize, length: u32| {
-        let mut bytes = vec![0; size];
-        bytes[..4].copy_from_slice(&length.to_le_bytes());
-        bytes[4] = 1;
-        bytes
-    };
-    let most = kept(6 + 4 * MOST_ENTRIES, 2 + 4 * MOST_ENTRIES as u32);
+    let most = zeros_kept(6 + 4 * MOST_ENTRIES, 1, 2 + 4 * MOST_ENTRIES as u32);
     // One entry more: its length has turned to that of no entries.
-    let turned = kept(6 + 4 * (MOST_ENTRIES + 1), 2);
-    let part_of_an_entry = kept(MOST + 4, u32::MAX);
+    let turned = zeros_kept(6 + 4 * (MOST_ENTRIES + 1), 1, 2);
+    let part_of_an_entry = zeros_kept(MOST + 4, 1, u32::MAX);
     let mut short = vec![0; MOST_ENTRIES - 1];
     for library in BOTH {
         let loaded = (library.load_kept)(&most, &mut short);
@@ -395,7 +425,61 @@ fn kept_indexes_around_the_largest() {
         for bytes in [&turned, &part_of_an_entry, &most[..MOST]] {
             let loaded = (library.load_kept)(bytes, &mut short);
             assert_eq!(loaded, refused(Refusal::BadKept));
+            let written = (library.convert_1_to_2)(Versions::One, &[], bytes, &mut []);
+            assert_eq!(written, refused(Refusal::BadKept));
         }
+    }
+}
+
+/// Kind 2 has an entry less, and the row count in its place. A record is no file: however large it
+/// is, it is never too big.
+#[test]
+fn kept_indexes_of_kind_2_around_the_largest() {
+    let most = zeros_kept(6 + 4 * MOST_ENTRIES, 2, 2 + 4 * MOST_ENTRIES as u32);
+    // One entry more: its length has turned to one that has no room for the row count.
+    let turned = zeros_kept(6 + 4 * (MOST_ENTRIES + 1), 2, 2);
+    let two_more = zeros_kept(6 + 4 * (MOST_ENTRIES + 2), 2, 6);
+    let part_of_an_entry = zeros_kept(MOST + 4, 2, u32::MAX);
+    let mut short = vec![0; MOST_ENTRIES - 2];
+    // As much as kind 1 needs for as many entries, but a byte.
+    let mut short_buffer = vec![0; 6 + 4 * (MOST_ENTRIES - 1) - 1];
+    for library in BOTH {
+        let loaded = (library.load_kept2)(&most, &mut short);
+        assert_eq!(loaded, refused(Refusal::Small));
+        let written = (library.convert_2_to_1)(&most, &mut short_buffer);
+        assert_eq!(written, refused(Refusal::Small));
+        for bytes in [&turned, &two_more, &part_of_an_entry, &most[..MOST]] {
+            let loaded = (library.load_kept2)(bytes, &mut short);
+            assert_eq!(loaded, refused(Refusal::BadKept));
+            let written = (library.convert_2_to_1)(bytes, &mut short_buffer);
+            assert_eq!(written, refused(Refusal::BadKept));
+            let checked = (library.check_kept2)(Versions::One, &[], bytes);
+            assert_eq!(checked, refused(Refusal::BadKept));
+        }
+    }
+}
+
+/// The front of what is lent is written, however much it is.
+#[test]
+fn more_room_than_a_kept_index_can_need() {
+    let (mut buffer, mut list) = (vec![0; (1 << 32) + 5], vec![0; (1 << 30) + 1]);
+    let file = b"NJPL1I00DEMO00000003abc";
+    let (one, two) = (record(1, &[0]), record(2, &[1, 0]));
+    for library in BOTH {
+        buffer[..24].fill(7);
+        let written = (library.convert_1_to_2)(Versions::One, file, &one, &mut buffer);
+        assert_eq!(written, Ok(14));
+        assert_eq!(buffer[..24], [&two[..], &[7; 10]].concat());
+        let written = (library.convert_2_to_1)(&two, &mut buffer);
+        assert_eq!(written, Ok(10));
+        assert_eq!(buffer[..24], [&one[..], &two[10..], &[7; 10]].concat());
+        list[..2].fill(7);
+        let loaded = (library.load_kept2)(&two, &mut list);
+        let (rows, entries) = (1, 1);
+        assert_eq!(
+            (loaded, &list[..2]),
+            (Ok(Kept2 { rows, entries }), &[0, 7][..])
+        );
     }
 }
 

@@ -3,6 +3,7 @@
 //! that version 2 is not allowed.
 
 use conformance::generator::files::{self, Binary, Mix};
+use conformance::generator::kept::record;
 use conformance::generator::random::Random;
 use conformance::library::{Library, INDEPENDENT, PROVED};
 use crestulbino::{Kind, Refusal, Refused, Version, Versions, Window};
@@ -166,10 +167,15 @@ fn all_answers(library: &Library, versions: Versions, file: &[u8], list: &[u32])
     let mut built = [7; 8];
     let index = (library.build_index)(versions, file, &mut built);
     let checked = (library.check)(kind, file);
+    let mut buffer = [7; 40];
+    let converted = (library.convert_1_to_2)(versions, file, &record(1, list), &mut buffer);
+    let kept = record(2, &[&[checked.unwrap_or(2) as u32], list].concat());
     let mut answers = vec![
         answer(checked),
         answer(index.map(|index| (index, built))),
         answer((library.check_index)(versions, file, list)),
+        answer(converted.map(|written| (written, buffer))),
+        answer((library.check_kept2)(versions, file, &kept)),
     ];
     // As many whatever is told, so that the answers can be set side by side.
     for row in (0..20).chain([31, 32, 33]) {

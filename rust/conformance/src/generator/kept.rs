@@ -97,8 +97,8 @@ struct Lent {
 /// What stands for a file, and what is told of it, where none is lent.
 const NO_FILE: (Vec<u8>, Versions) = (Vec::new(), Versions::One);
 
-/// The bytes of a record of this kind.
-fn record(kind: u16, numbers: &[u32]) -> Vec<u8> {
+/// The bytes of a record of this kind: of kind 1 its entries, of kind 2 the row count and the entries.
+pub fn record(kind: u16, numbers: &[u32]) -> Vec<u8> {
     let mut bytes = vec![0; LENGTH];
     bytes.extend(kind.to_le_bytes());
     bytes.extend(numbers.iter().flat_map(|number| number.to_le_bytes()));

@@ -4,7 +4,7 @@ mod bad_lines;
 mod bursts;
 mod edges;
 pub mod files;
-mod kept;
+pub mod kept;
 pub mod published;
 pub mod random;
 
