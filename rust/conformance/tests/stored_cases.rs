@@ -80,3 +80,11 @@ fn stored_answers_of_d_numbers_to_the_nearest() {
         include_str!("data/nearest.answers"),
     );
 }
+
+#[test]
+fn stored_answers_of_kept_indexes_of_kind_2() {
+    same(
+        include_str!("data/kept2.cases"),
+        include_str!("data/kept2.answers"),
+    );
+}
