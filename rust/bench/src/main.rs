@@ -4,7 +4,9 @@
 mod inputs;
 mod plain;
 
-use crestulbino::{Beams, Field, Kind, Row, Verdict, Versions, Window};
+use crestulbino::{
+    Beams, Field, Kind, Row, Verdict, Versions, Window, KEPT2_FRONT_BYTES, KEPT_FRONT_BYTES,
+};
 use inputs::{
     Numbers, BINARY, BURST_ROWS, BURST_START, DIGITS, ROWS, SPACES_AND_DIGITS, WAVEFORM_ROWS,
 };
@@ -20,6 +22,13 @@ const JUMPS: usize = 20_000;
 /// How many numbers are read, and how often in a round.
 const NUMBERS: usize = 4_096;
 const REPEATS: usize = 50;
+
+/// How many entries kept indexes have, in words too, and how often each is read or written in a round.
+const KEPT_SIZES: [(&str, usize, usize); 3] = [
+    ("1 entry", 1, 100_000),
+    ("12,500 entries", 12_500, 50),
+    ("1,000,000 entries", 1_000_000, 1),
+];
 
 const EMPTY: Window = Window::new(0, 0);
 
@@ -61,6 +70,9 @@ fn main() {
     check_labelled("check labelled, both versions allowed, a row", BOTH, &file);
     labelled_calls(" version 2", BOTH, &binary, &rows(ROWS));
     read_labels("read_label version 2, a label", BOTH, &binary_labels);
+    for (of, entries, times) in KEPT_SIZES {
+        kept_records(of, entries, times);
+    }
     burst_rows(&bursts, &rows(BURST_ROWS));
     burst_fields(&bursts);
     burst_numbers();
@@ -93,6 +105,7 @@ fn labelled_calls(of: &str, versions: Versions, file: &[u8], rows: &[usize]) {
         || usize::from(crestulbino::check_index(versions, black_box(file), list).is_ok()),
         || usize::from(plain::check_index(black_box(file), version_2, list).is_ok()),
     );
+    kept_with_file(of, versions, file, list);
     compare(
         &format!("jump_labelled{of}, a jump"),
         rows.len(),
@@ -114,6 +127,105 @@ fn labelled_calls(of: &str, versions: Versions, file: &[u8], rows: &[usize]) {
         versions,
         file,
     );
+}
+
+/// The calls on a file and its kept index.
+fn kept_with_file(of: &str, versions: Versions, file: &[u8], list: &[u32]) {
+    let version_2 = version_2(versions);
+    let mut kept = vec![0; KEPT_FRONT_BYTES + 4 * list.len()];
+    crestulbino::keep_index(list, &mut kept).expect("a kept index");
+    let size = KEPT2_FRONT_BYTES + 4 * list.len();
+    let (mut one, mut other) = (vec![1; size], vec![1; size]);
+    compare(
+        &format!("convert_1_to_2{of}, a row"),
+        ROWS,
+        || crestulbino::convert_1_to_2(versions, black_box(file), &kept, &mut one).unwrap_or(0),
+        || plain::convert_1_to_2(black_box(file), version_2, &kept, &mut other).unwrap_or(0),
+    );
+    assert_eq!(one, other, "the two kept indexes");
+    compare(
+        &format!("check_kept2{of}, a row"),
+        ROWS,
+        || usize::from(crestulbino::check_kept2(versions, black_box(file), &one).is_ok()),
+        || usize::from(plain::check_kept2(black_box(file), version_2, &other).is_ok()),
+    );
+}
+
+/// The calls on a kept index of so many entries, made so often in a round.
+fn kept_records(of: &str, entries: usize, times: usize) {
+    let mut numbers = Numbers::new();
+    let list: Vec<u32> = (0..entries)
+        .map(|_| numbers.below(1 << 32) as u32)
+        .collect();
+    let mut kept = vec![0; KEPT_FRONT_BYTES + 4 * entries];
+    crestulbino::keep_index(&list, &mut kept).expect("a kept index");
+    let mut kept2 = [&[0; 4], &kept[..]].concat();
+    kept2[..4].copy_from_slice(&(kept.len() as u32).to_le_bytes());
+    kept2[4..KEPT2_FRONT_BYTES].copy_from_slice(&[2, 0, 1, 2, 3, 4]);
+    let (mut one, mut other) = (vec![1; kept.len()], vec![1; kept.len()]);
+    compare(
+        &format!("keep_index, {of}"),
+        times,
+        || {
+            many(times, || {
+                crestulbino::keep_index(black_box(&list), &mut one).unwrap_or(0)
+            })
+        },
+        || {
+            many(times, || {
+                plain::keep_index(black_box(&list), &mut other).unwrap_or(0)
+            })
+        },
+    );
+    assert_eq!(one, other, "the two kept indexes");
+    compare(
+        &format!("convert_2_to_1, {of}"),
+        times,
+        || {
+            many(times, || {
+                crestulbino::convert_2_to_1(black_box(&kept2), &mut one).unwrap_or(0)
+            })
+        },
+        || {
+            many(times, || {
+                plain::convert_2_to_1(black_box(&kept2), &mut other).unwrap_or(0)
+            })
+        },
+    );
+    assert_eq!(one, other, "the two kept indexes");
+    let (mut one, mut other) = (vec![1; entries], vec![1; entries]);
+    compare(
+        &format!("load_kept, {of}"),
+        times,
+        || {
+            many(times, || {
+                crestulbino::load_kept(black_box(&kept), &mut one).unwrap_or(0)
+            })
+        },
+        || {
+            many(times, || {
+                plain::load_kept(black_box(&kept), &mut other).unwrap_or(0)
+            })
+        },
+    );
+    assert_eq!(one, other, "the two lists");
+    compare(
+        &format!("load_kept2, {of}"),
+        times,
+        || {
+            many(times, || {
+                let loaded = crestulbino::load_kept2(black_box(&kept2), &mut one);
+                loaded.map_or(0, |loaded| loaded.rows + loaded.entries)
+            })
+        },
+        || {
+            many(times, || {
+                let loaded = plain::load_kept2(black_box(&kept2), &mut other);
+                loaded.map_or(0, |(rows, entries)| rows + entries)
+            })
+        },
+    );
+    assert_eq!(one, other, "the two lists");
 }
 
 /// The place and all parts of the address of a row.
@@ -454,6 +566,11 @@ fn repeated<T>(items: &[T], answer: impl Fn(&T) -> usize) -> usize {
         answers.fold(0, usize::wrapping_add)
     };
     (0..REPEATS).map(once).fold(0, usize::wrapping_add)
+}
+
+/// The answers of a call that is made so often.
+fn many(times: usize, mut answer: impl FnMut() -> usize) -> usize {
+    (0..times).map(|_| answer()).fold(0, usize::wrapping_add)
 }
 
 /// Measures both sides in turn and prints a line of the table.

@@ -267,6 +267,133 @@ pub fn check_index(file: &[u8], version_2: bool, list: &[u32]) -> Result<(), Fau
     }
 }
 
+/// The bytes of a kept index in front of its entries, of kind 1 and of kind 2.
+const KEPT_FRONT: usize = 6;
+const KEPT2_FRONT: usize = 10;
+
+/// The most entries of a kept index.
+const MOST_ENTRIES: usize = 1_073_741_823;
+
+/// The entries of a kept index of this kind, still as bytes.
+#[inline(always)]
+fn kept_entries(bytes: &[u8], kind: u8, front: usize) -> Result<&[u8], Fault> {
+    let entries = bytes.get(front..).ok_or((13, 0))?;
+    let is_kept = four_at(bytes, 0) as usize == bytes.len() - 4
+        && bytes[4..6] == [kind, 0]
+        && entries.len().is_multiple_of(4);
+    if is_kept {
+        Ok(entries)
+    } else {
+        Err((13, 0))
+    }
+}
+
+/// The front of what is lent for a record of so many bytes, with its length and kind written.
+#[inline(always)]
+fn begun(out: &mut [u8], size: usize, kind: u8) -> Result<&mut [u8], Fault> {
+    let record = out.get_mut(..size).ok_or((8, 0))?;
+    record[..4].copy_from_slice(&(size as u32 - 4).to_le_bytes());
+    record[4..6].copy_from_slice(&[kind, 0]);
+    Ok(record)
+}
+
+#[inline(always)]
+fn load_entries(entries: &[u8], list: &mut [u32]) -> Result<usize, Fault> {
+    let count = entries.len() / 4;
+    let list = list.get_mut(..count).ok_or((8, 0))?;
+    for (slot, entry) in list.iter_mut().zip(entries.chunks_exact(4)) {
+        *slot = four_at(entry, 0);
+    }
+    Ok(count)
+}
+
+/// Writes an index as bytes to keep.
+#[inline(never)]
+pub fn keep_index(list: &[u32], out: &mut [u8]) -> Result<usize, Fault> {
+    if list.len() > MOST_ENTRIES {
+        return Err((14, 0));
+    }
+    let size = KEPT_FRONT + 4 * list.len();
+    let entries = begun(out, size, 1)?[KEPT_FRONT..].chunks_exact_mut(4);
+    for (bytes, entry) in entries.zip(list) {
+        bytes.copy_from_slice(&entry.to_le_bytes());
+    }
+    Ok(size)
+}
+
+/// Reads a kept index, and answers how many entries it has.
+#[inline(never)]
+pub fn load_kept(bytes: &[u8], list: &mut [u32]) -> Result<usize, Fault> {
+    load_entries(kept_entries(bytes, 1, KEPT_FRONT)?, list)
+}
+
+/// Reads a kept index of kind 2, and answers how many rows and entries it has.
+#[inline(never)]
+pub fn load_kept2(bytes: &[u8], list: &mut [u32]) -> Result<(usize, usize), Fault> {
+    let entries = kept_entries(bytes, 2, KEPT2_FRONT)?;
+    let count = load_entries(entries, list)?;
+    Ok((four_at(bytes, KEPT_FRONT) as usize, count))
+}
+
+/// The row count of a file, and whether these bytes are the entries of its index, in one pass.
+#[inline(always)]
+fn rows_and_index(file: &[u8], version_2: bool, entries: &[u8]) -> Result<(usize, bool), Fault> {
+    let (mut rows, mut is_index) = (0, true);
+    pass(file, version_2, |leaf| {
+        if rows % ROWS_PER_ENTRY == 0 {
+            let entry = entries.get(rows / ROWS_PER_ENTRY * 4..).unwrap_or(&[]);
+            let entry = entry.first_chunk().copied().map(u32::from_le_bytes);
+            is_index &= entry == Some(leaf.label as u32);
+        }
+        rows += 1;
+    })?;
+    let is_whole = entries.len() == 4 * rows.div_ceil(ROWS_PER_ENTRY);
+    Ok((rows, is_index && is_whole))
+}
+
+/// Writes a kept index of kind 1 as one of kind 2, with the row count of its file.
+#[inline(never)]
+pub fn convert_1_to_2(
+    file: &[u8],
+    version_2: bool,
+    kept: &[u8],
+    out: &mut [u8],
+) -> Result<usize, Fault> {
+    let entries = kept_entries(kept, 1, KEPT_FRONT);
+    let (rows, is_index) = rows_and_index(file, version_2, entries.unwrap_or(&[]))?;
+    let entries = entries?;
+    if !is_index {
+        return Err((11, 0));
+    }
+    let size = KEPT2_FRONT + entries.len();
+    let record = begun(out, size, 2)?;
+    record[KEPT_FRONT..KEPT2_FRONT].copy_from_slice(&(rows as u32).to_le_bytes());
+    record[KEPT2_FRONT..].copy_from_slice(entries);
+    Ok(size)
+}
+
+/// Writes a kept index of kind 2 as one of kind 1.
+#[inline(never)]
+pub fn convert_2_to_1(kept: &[u8], out: &mut [u8]) -> Result<usize, Fault> {
+    let entries = kept_entries(kept, 2, KEPT2_FRONT)?;
+    let size = KEPT_FRONT + entries.len();
+    begun(out, size, 1)?[KEPT_FRONT..].copy_from_slice(entries);
+    Ok(size)
+}
+
+/// Accepts exactly the index of an accepted file, kept with its row count.
+#[inline(never)]
+pub fn check_kept2(file: &[u8], version_2: bool, kept: &[u8]) -> Result<(), Fault> {
+    let entries = kept_entries(kept, 2, KEPT2_FRONT);
+    let (rows, is_index) = rows_and_index(file, version_2, entries.unwrap_or(&[]))?;
+    entries?;
+    if is_index && four_at(kept, KEPT_FRONT) as usize == rows {
+        Ok(())
+    } else {
+        Err((11, 0))
+    }
+}
+
 /// What a window shows of a row: its place, its bytes, and the row's address.
 pub struct Row<'a> {
     pub place: usize,
