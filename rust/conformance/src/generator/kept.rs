@@ -51,7 +51,7 @@ impl Call {
         }
     }
 
-    /// The call on these bytes, of which it takes a part.
+    /// The call with what is lent, of which it takes a part.
     fn case(self, lent: Lent, random: &mut Random) -> Case {
         let Lent {
             file,
@@ -87,6 +87,7 @@ impl Call {
     }
 }
 
+/// All that a call may be lent.
 struct Lent {
     file: Vec<u8>,
     versions: Versions,
@@ -118,7 +119,7 @@ fn set_own_length(bytes: &mut [u8]) {
 enum Harm {
     /// It is cut, or made longer, to so many bytes, and its length field says so.
     Size(usize),
-    /// Its length field is so much more, or less, as numbers turn.
+    /// Its length field is so much more, or less where that turns.
     Length(u32),
     /// The bytes of its length field are in the other order.
     LengthReversed,
@@ -185,7 +186,7 @@ fn harms() -> Vec<Harm> {
 /// The row count of a record, beside that of its file.
 #[derive(Clone, Copy, Debug, PartialEq, Eq)]
 enum Count {
-    /// So much more, or less, as numbers turn.
+    /// So much more, or less where that turns.
     Plus(u32),
     /// With its bytes in the other order.
     Reversed,
@@ -227,6 +228,14 @@ impl Count {
             Count::Behind => return [entries, &[rows]].concat(),
         };
         [&[count], entries].concat()
+    }
+}
+
+/// The bytes of a record of this kind, with a count only in kind 2.
+fn record_of(kind: u16, count: Count, rows: u32, list: &[u32]) -> Vec<u8> {
+    match kind {
+        1 => record(1, list),
+        _ => record(kind, &count.with(rows, list)),
     }
 }
 
@@ -382,11 +391,7 @@ impl Asked {
             Call::To2 | Call::Check => self.list.of(&file, random),
             Call::Load | Call::Load2 | Call::To1 => entries(rows.div_ceil(16), random),
         };
-        let numbers = match self.kind {
-            1 => list.clone(),
-            _ => self.count.with(rows as u32, &list),
-        };
-        let mut kept = record(self.kind, &numbers);
+        let mut kept = record_of(self.kind, self.count, rows as u32, &list);
         if let Some(harm) = self.harm {
             harm.done_to(&mut kept, random);
         }
@@ -451,13 +456,8 @@ pub fn any_entries(random: &mut Random) -> Vec<u32> {
 pub fn any_record(random: &mut Random) -> Case {
     let call = random.pick(&RECORD_CALLS);
     let list = any_entries(random);
-    let mut kept = match call.kind() {
-        1 => record(1, &list),
-        kind => {
-            let rows = entries(1, random)[0];
-            record(kind, &RIGHT.with(rows, &list))
-        }
-    };
+    let rows = entries(1, random)[0];
+    let mut kept = record_of(call.kind(), RIGHT, rows, &list);
     if random.chance(55) {
         damage(&mut kept, random);
     }
@@ -503,14 +503,10 @@ pub fn of_file(file: LabelledFile, versions: Versions, random: &mut Random) -> C
         file.index()
     };
     let rows = file.leaves().len() as u32;
-    let kept = match call.kind() {
-        1 => record(1, &list),
-        kind => record(kind, &RIGHT.with(rows, &list)),
-    };
     let lent = Lent {
         file: file.bytes,
         versions,
-        kept,
+        kept: record_of(call.kind(), RIGHT, rows, &list),
         room: call.need(list.len()) + 1,
     };
     call.case(lent, random)
@@ -602,40 +598,44 @@ fn in_files() -> Vec<Asked> {
 }
 
 /// What can be wrong at once: each set of the record, the list, and the room or in the check the
-/// count, with a good file and with a file of each fault.
+/// count; with a file of each fault, which has no index, each set of the others.
 fn at_fault() -> Vec<Asked> {
-    const BAD: [Harm; 3] = [Harm::Kind(3), Harm::Length(4), Harm::Part(2)];
-    let mut asked = Vec::new();
-    for call in CALLS {
-        let (files, lists): (Vec<File>, &[List]) = if FILE_CALLS.contains(&call) {
-            let faulty = FAULTS.map(File::Faulty).into_iter();
-            let files = faulty.chain([File::Rows(17)]).collect();
-            (files, &[List::Right, List::Longer])
-        } else {
-            (vec![File::Rows(17)], &[List::Right])
+    let with = |call, file, list| {
+        let right = Asked {
+            file,
+            list,
+            ..Asked::right(call)
         };
-        let lasts = match call {
-            Call::Check => [(RIGHT, Room::More), (Count::Plus(1), Room::More)],
-            _ => [(RIGHT, Room::More), (RIGHT, Room::Less)],
+        let last = match call {
+            Call::Check => Asked {
+                count: Count::Plus(1),
+                ..right
+            },
+            _ => Asked {
+                room: Room::Less,
+                ..right
+            },
         };
-        for (number, file) in files.into_iter().enumerate() {
-            let bad = BAD[number % BAD.len()];
-            for (harm, &list) in [None, Some(bad)]
-                .into_iter()
-                .flat_map(|harm| lists.iter().map(move |list| (harm, list)))
-            {
-                asked.extend(lasts.map(|(count, room)| Asked {
-                    file,
-                    count,
-                    list,
-                    harm,
-                    room,
-                    ..Asked::right(call)
-                }));
-            }
-        }
-    }
-    asked
+        let bad = |harm, asked| Asked {
+            harm: Some(harm),
+            ..asked
+        };
+        let both = bad(Harm::Kind(3), last);
+        [right, last, bad(Harm::Length(4), right), both]
+    };
+    let good = File::Rows(17);
+    let alone = RECORD_CALLS
+        .into_iter()
+        .flat_map(|call| with(call, good, List::Right));
+    let of_file = |call| {
+        let lists = [List::Right, List::Longer].into_iter();
+        let faults = FAULTS.map(File::Faulty).into_iter();
+        lists
+            .flat_map(move |list| with(call, good, list))
+            .chain(faults.flat_map(move |faulty| with(call, faulty, List::Right)))
+    };
+    let with_file = FILE_CALLS.into_iter().flat_map(of_file);
+    alone.chain(with_file).collect()
 }
 
 /// Each room by each call that writes, for no entries and for some.
