@@ -15,6 +15,9 @@ pub type Answer<T> = Result<T, Refused>;
 /// A jump into a labelled file, whose row borrows from the file alone.
 pub type JumpLabelled = for<'a> fn(Versions, &'a [u8], &[u32], usize, Window) -> Answer<Row<'a>>;
 
+/// From a file and its kept index of kind 1 to one of kind 2.
+pub type Convert1To2 = fn(Versions, &[u8], &[u8], &mut [u8]) -> Answer<usize>;
+
 /// An implementation of the calls, with the types of the crate over the proved library.
 #[derive(Clone, Copy, Debug)]
 pub struct Library {
@@ -31,7 +34,7 @@ pub struct Library {
     pub keep_index: fn(&[u32], &mut [u8]) -> Answer<usize>,
     pub load_kept: fn(&[u8], &mut [u32]) -> Answer<usize>,
     pub load_kept2: fn(&[u8], &mut [u32]) -> Answer<Kept2>,
-    pub convert_1_to_2: fn(Versions, &[u8], &[u8], &mut [u8]) -> Answer<usize>,
+    pub convert_1_to_2: Convert1To2,
     pub convert_2_to_1: fn(&[u8], &mut [u8]) -> Answer<usize>,
     pub check_kept2: fn(Versions, &[u8], &[u8]) -> Answer<()>,
     pub sample: fn(u8) -> i64,

@@ -172,10 +172,19 @@ fn lent_memory_is_shown_on_refusals_too() {
     expect("load_kept 06000000010014000000 5,6", "ok 1 20,6");
     expect("load_kept2 06000000010014000000 5,6", "ref 13 0 5,6");
     expect("load_kept2 0a00000002000200000014000000 5,6", "ok 2 1 20,6");
-    expect("convert_2_to_1 0a00000002000200000014000000 aabb", "ref 8 0 aabb");
+    expect(
+        "convert_2_to_1 0a00000002000200000014000000 aabb",
+        "ref 8 0 aabb",
+    );
     told("convert_1_to_2 00 020000000100 aabb", "ref 1 0 aabb");
-    told("convert_1_to_2 - 06000000020000000000 aabb", "ref 13 0 aabb");
-    told("convert_1_to_2 - 06000000010014000000 aabb", "ref 11 0 aabb");
+    told(
+        "convert_1_to_2 - 06000000020000000000 aabb",
+        "ref 13 0 aabb",
+    );
+    told(
+        "convert_1_to_2 - 06000000010014000000 aabb",
+        "ref 11 0 aabb",
+    );
     told("convert_1_to_2 - 020000000100 aabb", "ref 8 0 aabb");
     told("build_index 00 5,6", "ref 1 0 5,6");
     expect("opening 00", "ref 1 0");

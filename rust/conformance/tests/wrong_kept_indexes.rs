@@ -2,7 +2,7 @@
 //! cases tell each of them from what is right.
 
 use conformance::generator::Generator;
-use conformance::library::{Answer, INDEPENDENT};
+use conformance::library::{Answer, Convert1To2, INDEPENDENT};
 use conformance::{answer, Case, Library};
 use crestulbino::{Kept2, Kind, Refusal, Refused, Versions};
 
@@ -10,7 +10,6 @@ const RIGHT: Library = INDEPENDENT;
 
 type Load = fn(&[u8], &mut [u32]) -> Answer<usize>;
 type Load2 = fn(&[u8], &mut [u32]) -> Answer<Kept2>;
-type To2 = fn(Versions, &[u8], &[u8], &mut [u8]) -> Answer<usize>;
 type To1 = fn(&[u8], &mut [u8]) -> Answer<usize>;
 type Check = fn(Versions, &[u8], &[u8]) -> Answer<()>;
 
@@ -42,10 +41,8 @@ const LOADS_2: [(&str, Load2); 11] = [
         load_counting(kept, list, |two| two.rows as u32 as i32 as usize)
     }),
     ("the count is compared with the entries", |kept, list| {
-        let suits = |two: &Kept2| two.rows.div_ceil(16) == two.entries;
         let (rows, entries) = loaded(kept)?;
-        let entries = entries.len();
-        match suits(&Kept2 { rows, entries }) {
+        match rows.div_ceil(16) == entries.len() {
             true => (RIGHT.load_kept2)(kept, list),
             false => refused(Refusal::BadKept),
         }
@@ -82,7 +79,7 @@ const LOADS_2: [(&str, Load2); 11] = [
 ];
 
 /// From kind 1 to kind 2.
-const TO_2: [(&str, To2); 16] = [
+const TO_2: [(&str, Convert1To2); 16] = [
     (
         "the count is behind the entries",
         |versions, file, kept, buffer| {
