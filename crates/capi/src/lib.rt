@@ -26,7 +26,7 @@ ghost use Rattle.label.specs.Version.{versionNumber};
 ghost use Rattle.label.specs.Label.{readLabel};
 ghost use Rattle.reader.specs.Rows.{checkFile};
 ghost use Rattle.reader.specs.Read.{readRow, jumpRow, rowFrom};
-ghost use Rattle.row_index.specs.Index.{indexOf, builtOf, buildIndex, checkIndex};
+ghost use Rattle.row_index.specs.Index.{indexOf, builtOf, buildIndex, accepted, checkIndex};
 ghost use Rattle.kept.specs.Kept.{keepIndex, loadKept};
 ghost use Rattle.kept_rows.specs.Kind2.{listOf, loadedOf, loadKept2, toKind1};
 ghost use Rattle.kept_check.specs.Check.{toKind2, checkKept2};
@@ -312,15 +312,22 @@ pub extern "C" fn crest_build_index(
     }
 }
 
+// A list, or a record, that is the file's, or not.
+fn verified(answer: Verified) -> Result
+    ensures { λ r. ⌜ r ≡ resultOf (accepted answer) ⌝ }
+{
+    match answer {
+        Verified::Right => hand::DONE,
+        Verified::Refused(why, place) => hand::refused(why, place),
+    }
+}
+
 // Whether the whole list is the index of a labelled file.
 #[no_mangle]
 pub extern "C" fn crest_check_index(file: &[u8], version_2: bool, list: &[u32]) -> Result
     ensures { λ r. ⌜ r ≡ resultOf (checkIndex (choiceOf version_2) (now (file .entry)) (now (list .entry))) ⌝ }
 {
-    match row_index::check_index(hand::choice(version_2), file, list) {
-        Verified::Right => hand::DONE,
-        Verified::Refused(why, place) => hand::refused(why, place),
-    }
+    verified(row_index::check_index(hand::choice(version_2), file, list))
 }
 
 // Writes the kept form of a list to the front of `out`.
@@ -400,10 +407,7 @@ pub extern "C" fn crest_convert_2_to_1(kept: &[u8], out: &mut [u8], written: &mu
 pub extern "C" fn crest_check_kept2(file: &[u8], version_2: bool, kept: &[u8]) -> Result
     ensures { λ r. ⌜ r ≡ resultOf (checkKept2 (choiceOf version_2) (now (file .entry)) (now (kept .entry))) ⌝ }
 {
-    match kept_check::check(hand::choice(version_2), file, kept) {
-        Verified::Right => hand::DONE,
-        Verified::Refused(why, place) => hand::refused(why, place),
-    }
+    verified(kept_check::check(hand::choice(version_2), file, kept))
 }
 
 // Twice the amplitude that a sample byte stands for: it never refuses, and returns the number itself.

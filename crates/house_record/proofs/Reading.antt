@@ -88,3 +88,10 @@ loaded-is-kept kind first s room w e =
 pub record-reads : (kind first : ℕ) (s : List ℕ) → isKept kind first s ≡ true → readAs kind first s ≡ answer (entriesOf ((length s - first) / 4) (drop first s))
 unfolding readAs
 record-reads kind first s kept = simp kept
+
+-- bytes that are a record of one kind are none of another
+pub each-refuses-the-other : (kind other first second : ℕ) (s xs : List ℕ) → (kind ≡ other → ⊥) → readAs kind first s ≡ answer xs → readAs other second s ≡ refuse 13 0
+unfolding readAs
+each-refuses-the-other kind other first second s xs differ reads =
+    let kept = passed 0 (isKept kind first s) 13 (answer (entriesOf ((length s - first) / 4) (drop first s))) xs reads .0 in
+    simp (wrong-kind other second s (sym (accepted kind first s kept .of-kind)) differ)

@@ -30,6 +30,26 @@
 //! A row carries its [`Address`], to be looked up in a hex viewer: where its label stands, and, where it
 //! was read from the first byte, how it is nested.
 //!
+//! An index can be kept as bytes. A record of kind 2 has the file's row count too, so that who has the
+//! record knows it without the file.
+//!
+//! ```
+//! use crestulbino::{build_index, convert_1_to_2, keep_index, load_kept2, Versions};
+//! use crestulbino::{KEPT2_FRONT_BYTES, KEPT_FRONT_BYTES};
+//!
+//! let file = b"CCSD1Z00000100000043NJPL1I00DEMO00000003abcNJPL1I00DEMO00000000";
+//! let mut list = [0; 1];
+//! build_index(Versions::One, file, &mut list)?;
+//! let mut kept = [0; KEPT_FRONT_BYTES + 4];
+//! keep_index(&list, &mut kept)?;
+//! let mut kept2 = [0; KEPT2_FRONT_BYTES + 4];
+//! convert_1_to_2(Versions::One, file, &kept, &mut kept2)?;
+//!
+//! let rows = load_kept2(&kept2, &mut list)?.rows;
+//! assert_eq!((rows, list), (2, [20]));
+//! # Ok::<(), crestulbino::Refused>(())
+//! ```
+//!
 //! A label is of one of two [`Version`]s, and a file may mix them. Every call that reads labels is
 //! told which [`Versions`] are allowed; all that is asked of one file is to be told the same.
 //!

@@ -1,7 +1,6 @@
 -- `capi::crest_check_index` meets its contract: by what `check_index` answered.
-use mathlib.Core.Path.{_∙_, sym, ap}
-use Rattle.row_index.specs.Index.{accepted}
-use Rattle.hand.proofs.Handing.{answered-result, refused-result}
+use mathlib.Core.Path.{_∙_, ap}
+use Rattle.hand.specs.Handed.{resultOf}
 use borrow.Author.Needs.{needs}
 use Rattle.capi.proofs.crest_check_index.Statement.{statement}
 use Rattle.capi.proofs.crest_check_index.Tie as tie
@@ -12,26 +11,14 @@ choice-requires c κs = search needs
 check-index-requires : tie.Need-check-index-requires
 check-index-requires c κs = search needs
 
-enum-told : tie.Need-enum-told
-enum-told c = search needs
-
-enum-known-why : tie.Need-enum-known-why
-enum-known-why c = search needs
-
-refused-requires : tie.Need-refused-requires
-refused-requires c κs = search needs
+verified-requires : tie.Need-verified-requires
+verified-requires c κs = search needs
 
 returns : tie.Need-returns
 returns c =
-    let e = sym (rw (c .before .before .before .choice .ensures) at (c .before .before .check-index .ensures)) ∙ ap accepted (c .enum-told .given .1) in
-    answered-result e
-
-returns-2 : tie.Need-returns-2
-returns-2 c =
-    let e = sym (rw (c .before .before .before .before .before .choice .ensures) at (c .before .before .before .before .check-index .ensures)) ∙ ap accepted (c .before .before .why .given .1) in
-    c .refused .ensures ∙ refused-result e
+    let told = rw (c .before .before .choice .ensures) at (c .before .check-index .ensures) in
+    c .verified .ensures ∙ ap resultOf told
 
 pub crest-check-index-spec : {M : Type 1} → statement M
 crest-check-index-spec =
-    tie.close
-    (tie.spec choice-requires check-index-requires enum-told enum-known-why refused-requires returns returns-2)
+    tie.close (tie.spec choice-requires check-index-requires verified-requires returns)
