@@ -14,6 +14,9 @@ ghost use Rattle.answer.specs.Window.{bytesAt};
 ghost use Rattle.little.specs.LittleEndian.{leNumber};
 ghost use Rattle.house_record.specs.Record.{inRoom, numberAt, entriesOf, isKept, loadAs};
 
+// The bytes of the length and the kind, in front of all else.
+pub const FRONT: usize = 6;
+
 // The number in the two bytes from place `at` on.
 fn two_at(bytes: &[u8], at: usize) -> u32
     requires { ⌜ at + 2 ≤ length (now bytes) ⌝ }
@@ -48,10 +51,10 @@ pub fn number_at(bytes: &[u8], at: usize) -> u32
 pub fn is_record(kind: u32, between: usize, bytes: &[u8]) -> bool
     ensures { λ r. ⌜ r ≡ isKept kind (6 + between) (now (bytes .entry)) ⌝ }
 {
-    if bytes.len() < 6 {
+    if bytes.len() < FRONT {
         return false;
     }
-    let body = bytes.len() - 6;
+    let body = bytes.len() - FRONT;
     if body < between {
         return false;
     }
@@ -88,7 +91,7 @@ pub fn load(kind: u32, between: usize, bytes: &[u8], list: &mut [u32]) -> Count
     if !is_record(kind, between, bytes) {
         return Count::Refused(Refusal::BadKept, 0);
     }
-    let first = 6 + between;
+    let first = FRONT + between;
     let count = (bytes.len() - first) / 4;
     if list.len() < count {
         return Count::Refused(Refusal::Small, 0);

@@ -14,6 +14,9 @@ ghost use Rattle.house_record.specs.Record.{entryBytes};
 ghost use Rattle.kept.specs.Kept.{keepIndex, loadKept};
 ghost use Rattle.kept.specs.Private.{putAt};
 
+// The kind's number.
+pub const KIND: u32 = 1;
+
 // Writes a number's lower 16 bits to the two bytes from place `at` on.
 fn put_two(number: u32, out: &mut [u8], at: usize)
     requires { ⌜ at + 2 ≤ length (now out) ⌝ }
@@ -68,8 +71,8 @@ pub fn keep(list: &[u32], out: &mut [u8]) -> Count
     if out.len() < size {
         return Count::Refused(Refusal::Small, 0);
     }
-    put_head(follows as u32, 1, out);
-    put_entries(list, out, 6);
+    put_head(follows as u32, KIND, out);
+    put_entries(list, out, house_record::FRONT);
     Count::Is(size)
 }
 
@@ -79,5 +82,5 @@ pub fn load(bytes: &[u8], list: &mut [u32]) -> Count
     ensures { λ r. ⌜ Writes (loadKept (now (bytes .entry)) (length (now (list .entry))))
         (now (list .entry)) (counted r) (now (list .exit)) ⌝ }
 {
-    house_record::load(1, 0, bytes, list)
+    house_record::load(KIND, 0, bytes, list)
 }

@@ -52,7 +52,7 @@ fn rows_borne_out(versions: Versions, file: &[u8], kind: u32, between: usize, ke
             if !house_record::is_record(kind, between, kept) {
                 return Count::Refused(Refusal::BadKept, 0);
             }
-            let first = 6 + between;
+            let first = house_record::FRONT + between;
             let count = (kept.len() - first) / 4;
             if count != row_index::groups(rows) {
                 return Count::Refused(Refusal::BadIndex, 0);
@@ -71,10 +71,10 @@ fn rows_borne_out(versions: Versions, file: &[u8], kind: u32, between: usize, ke
 pub fn check(versions: Versions, file: &[u8], kept: &[u8]) -> Verified
     ensures { λ r. ⌜ accepted r ≡ checkKept2 versions (now (file .entry)) (now (kept .entry)) ⌝ }
 {
-    match rows_borne_out(versions, file, 2, 4, kept) {
+    match rows_borne_out(versions, file, kept_rows::KIND, kept_rows::COUNT, kept) {
         Count::Refused(why, place) => Verified::Refused(why, place),
         Count::Is(rows) => {
-            let told = house_record::number_at(kept, 6) as usize;
+            let told = house_record::number_at(kept, house_record::FRONT) as usize;
             if told != rows {
                 return Verified::Refused(Refusal::BadIndex, 0);
             }
@@ -109,12 +109,12 @@ pub fn to_kind_2(versions: Versions, file: &[u8], kept: &[u8], out: &mut [u8]) -
     ensures { λ r. ⌜ Writes (toKind2 versions (now (file .entry)) (now (kept .entry)) (length (now (out .entry))))
         (now (out .entry)) (counted r) (now (out .exit)) ⌝ }
 {
-    match rows_borne_out(versions, file, 1, 0, kept) {
+    match rows_borne_out(versions, file, kept::KIND, 0, kept) {
         Count::Refused(why, place) => Count::Refused(why, place),
         Count::Is(rows) => {
             let follows = house_record::number_at(kept, 0) + 4;
             let front = head(follows, rows as u32);
-            house_record::put(&front, &kept[6..], out)
+            house_record::put(&front, &kept[house_record::FRONT..], out)
         }
     }
 }

@@ -1,7 +1,7 @@
 // Kind 2 of the kept form of an index, which has the file's row count in front of the entries: read, and
 // turned back into kind 1 without the file. Renders document 02, item 9. The house record, of which it
-// is a use, is left to `house_record`; what takes the file, turning kind 1 into kind 2 and the check, is left to
-// `kept_check`.
+// is a use, is left to `house_record`; what takes the file, which is the check and turning kind 1 into
+// kind 2, is left to `kept_check`.
 use answer::Count;
 use answer::Refusal;
 ghost use mathlib.Core.Path.{_≡_};
@@ -12,6 +12,13 @@ ghost use Rattle.answer.specs.Counted.{counted};
 ghost use Rattle.answer.specs.Filled.{Writes, filled};
 ghost use Rattle.little.specs.LittleEndian.{le};
 ghost use Rattle.kept_rows.specs.Kind2.{listOf, loadedOf, loadKept2, toKind1, loaded};
+
+// The kind's number, the bytes of the row count behind it, and the place of the first entry.
+pub const KIND: u32 = 2;
+
+pub const COUNT: usize = 4;
+
+const ENTRIES: usize = 10;
 
 // What a record of kind 2 tells: how many rows the file has, and how many entries its index has.
 pub struct Loaded {
@@ -32,9 +39,9 @@ pub fn load(kept: &[u8], list: &mut [u32]) -> Read
     ensures leaves { λ _. ⌜ now (list .exit) ≡ filled (mapped listOf (loadKept2 (now (kept .entry)) (length (now (list .entry)))))
         (now (list .entry)) ⌝ }
 {
-    match house_record::load(2, 4, kept, list) {
+    match house_record::load(KIND, COUNT, kept, list) {
         Count::Is(entries) => {
-            let rows = house_record::number_at(kept, 6) as usize;
+            let rows = house_record::number_at(kept, house_record::FRONT) as usize;
             Read::Is(Loaded { rows, entries })
         }
         Count::Refused(why, place) => Read::Refused(why, place),
@@ -55,10 +62,10 @@ pub fn to_kind_1(kept: &[u8], out: &mut [u8]) -> Count
     ensures { λ r. ⌜ Writes (toKind1 (now (kept .entry)) (length (now (out .entry))))
         (now (out .entry)) (counted r) (now (out .exit)) ⌝ }
 {
-    if !house_record::is_record(2, 4, kept) {
+    if !house_record::is_record(KIND, COUNT, kept) {
         return Count::Refused(Refusal::BadKept, 0);
     }
     let follows = house_record::number_at(kept, 0) - 4;
     let front = head(follows);
-    house_record::put(&front, &kept[10..], out)
+    house_record::put(&front, &kept[ENTRIES..], out)
 }

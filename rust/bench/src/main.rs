@@ -129,8 +129,21 @@ fn labelled_calls(of: &str, versions: Versions, file: &[u8], rows: &[usize]) {
     );
 }
 
-/// The calls on a file and its kept index.
+/// The calls on a file and its kept index, beside plain Rust in the same two passes and in one.
 fn kept_with_file(of: &str, versions: Versions, file: &[u8], list: &[u32]) {
+    kept_beside(of, plain::in_two_passes, versions, file, list);
+    let of = format!("{of} beside one pass");
+    kept_beside(&of, plain::in_one_pass, versions, file, list);
+}
+
+/// The same, beside plain Rust that goes through the file in this way.
+fn kept_beside(
+    of: &str,
+    through: plain::RowsAndIndex,
+    versions: Versions,
+    file: &[u8],
+    list: &[u32],
+) {
     let version_2 = version_2(versions);
     let mut kept = vec![0; KEPT_FRONT_BYTES + 4 * list.len()];
     crestulbino::keep_index(list, &mut kept).expect("a kept index");
@@ -140,14 +153,17 @@ fn kept_with_file(of: &str, versions: Versions, file: &[u8], list: &[u32]) {
         &format!("convert_1_to_2{of}, a row"),
         ROWS,
         || crestulbino::convert_1_to_2(versions, black_box(file), &kept, &mut one).unwrap_or(0),
-        || plain::convert_1_to_2(black_box(file), version_2, &kept, &mut other).unwrap_or(0),
+        || {
+            let file = black_box(file);
+            plain::convert_1_to_2(through, file, version_2, &kept, &mut other).unwrap_or(0)
+        },
     );
     assert_eq!(one, other, "the two kept indexes");
     compare(
         &format!("check_kept2{of}, a row"),
         ROWS,
         || usize::from(crestulbino::check_kept2(versions, black_box(file), &one).is_ok()),
-        || usize::from(plain::check_kept2(black_box(file), version_2, &other).is_ok()),
+        || usize::from(plain::check_kept2(through, black_box(file), version_2, &other).is_ok()),
     );
 }
 

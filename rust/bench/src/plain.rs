@@ -335,9 +335,24 @@ pub fn load_kept2(bytes: &[u8], list: &mut [u32]) -> Result<(usize, usize), Faul
     Ok((four_at(bytes, KEPT_FRONT) as usize, count))
 }
 
-/// The row count of a file, and whether these bytes are the entries of its index, in one pass.
-#[inline(always)]
-fn rows_and_index(file: &[u8], version_2: bool, entries: &[u8]) -> Result<(usize, bool), Fault> {
+/// The row count of a file, and whether these bytes are the entries of its index.
+pub type RowsAndIndex = fn(&[u8], bool, &[u8]) -> Result<(usize, bool), Fault>;
+
+/// Both in two passes, as the library makes them: the check, and then the entries.
+#[inline(never)]
+pub fn in_two_passes(file: &[u8], version_2: bool, kept: &[u8]) -> Result<(usize, bool), Fault> {
+    let rows = check(file, version_2)?;
+    let is_index = kept.len() == 4 * rows.div_ceil(ROWS_PER_ENTRY)
+        && kept
+            .chunks_exact(4)
+            .zip(entries(file, version_2))
+            .all(|(entry, place)| place == Ok(four_at(entry, 0)));
+    Ok((rows, is_index))
+}
+
+/// Both in one pass.
+#[inline(never)]
+pub fn in_one_pass(file: &[u8], version_2: bool, entries: &[u8]) -> Result<(usize, bool), Fault> {
     let (mut rows, mut is_index) = (0, true);
     pass(file, version_2, |leaf| {
         if rows % ROWS_PER_ENTRY == 0 {
@@ -354,13 +369,14 @@ fn rows_and_index(file: &[u8], version_2: bool, entries: &[u8]) -> Result<(usize
 /// Writes a kept index of kind 1 as one of kind 2, with the row count of its file.
 #[inline(never)]
 pub fn convert_1_to_2(
+    through: RowsAndIndex,
     file: &[u8],
     version_2: bool,
     kept: &[u8],
     out: &mut [u8],
 ) -> Result<usize, Fault> {
     let entries = kept_entries(kept, 1, KEPT_FRONT);
-    let (rows, is_index) = rows_and_index(file, version_2, entries.unwrap_or(&[]))?;
+    let (rows, is_index) = through(file, version_2, entries.unwrap_or(&[]))?;
     let entries = entries?;
     if !is_index {
         return Err((11, 0));
@@ -383,9 +399,14 @@ pub fn convert_2_to_1(kept: &[u8], out: &mut [u8]) -> Result<usize, Fault> {
 
 /// Accepts exactly the index of an accepted file, kept with its row count.
 #[inline(never)]
-pub fn check_kept2(file: &[u8], version_2: bool, kept: &[u8]) -> Result<(), Fault> {
+pub fn check_kept2(
+    through: RowsAndIndex,
+    file: &[u8],
+    version_2: bool,
+    kept: &[u8],
+) -> Result<(), Fault> {
     let entries = kept_entries(kept, 2, KEPT2_FRONT);
-    let (rows, is_index) = rows_and_index(file, version_2, entries.unwrap_or(&[]))?;
+    let (rows, is_index) = through(file, version_2, entries.unwrap_or(&[]))?;
     entries?;
     if is_index && four_at(kept, KEPT_FRONT) as usize == rows {
         Ok(())
