@@ -10,7 +10,7 @@ use borrow.Author.Tests.{le-leb, leb-true}
 use Rattle.answer.specs.Outcome.{answer, need}
 use Rattle.answer.proofs.Outcomes.{passed, answer-injective}
 use Rattle.little.specs.LittleEndian.{Below}
-use Rattle.house_record.specs.Record.{inRoom, loadAs}
+use Rattle.house_record.specs.Record.{loadAs}
 use Rattle.house_record.proofs.RoundTrip.{kept-reads-back, read-is-kept}
 use Rattle.kept.specs.Kept.{keptForm, keepIndex, readKept, loadKept}
 

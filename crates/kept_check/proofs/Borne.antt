@@ -10,7 +10,7 @@ use Rattle.label.specs.declared.Versions.{Versions}
 use Rattle.answer.specs.Outcome.{Outcome, answer, refuse, need, andThen, mapped}
 use Rattle.answer.specs.Size.{largestFile}
 use Rattle.answer.specs.Window.{bytesAt}
-use Rattle.answer.proofs.Outcomes.{first-answered, passed, refused-first, after-answer, answer-injective}
+use Rattle.answer.proofs.Outcomes.{first-answered, passed, after-answer, answer-injective}
 use Rattle.sfdu.specs.Row.{Row}
 use Rattle.sfdu.specs.Check.{rowsOfFile, checkLabelled}
 use Rattle.sfdu.proofs.Checking.{accepted-says}
@@ -28,7 +28,7 @@ use Rattle.house_record.proofs.Entries.{length-entries}
 use Rattle.house_record.proofs.Reading.{accepted, record-reads}
 use Rattle.house_record.proofs.RoundTrip.{entries-are-the-rest}
 use Rattle.house_record.proofs.Writing.{in-two-pieces}
-use Rattle.kept_rows.specs.Kind2.{Counted, keptForm2, withRows}
+use Rattle.kept_rows.specs.Kind2.{keptForm2, withRows}
 use Rattle.kept_check.specs.Check.{bearsOut, toKind2, checkKept2}
 use Rattle.kept_check.specs.Private.{rowsBorneOut}
 

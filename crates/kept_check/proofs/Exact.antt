@@ -1,14 +1,14 @@
 -- The check of kind 2 accepts exactly the record of the file's index and row count.
-use Prim.Native.Nat.{ℕ, _+_, _*_, _^_, _≤_, _<_}
+use Prim.Native.Nat.{ℕ, _*_, _^_, _<_}
 use native.Mathlib.Omega.{arith}
 use mathlib.Core.Path.{_≡_, refl, _∙_, sym, ap, ap₂}
 use mathlib.Core.Logic.{_↔_}
 use mathlib.Core.List.{List}
-use lib.ListN.{length, getD}
+use lib.ListN.{length}
 use lib.Dec.{eqb}
 use borrow.Author.Tests.{eqb-true, eq-eqb}
 use Rattle.label.specs.declared.Versions.{Versions}
-use Rattle.answer.specs.Outcome.{Outcome, answer, need, andThen}
+use Rattle.answer.specs.Outcome.{answer, need, andThen}
 use Rattle.answer.proofs.Outcomes.{first-answered, passed, after-answer}
 use Rattle.answer.proofs.Tests.{both-hold, hold-together}
 use Rattle.sfdu.specs.Row.{Row}
@@ -22,7 +22,7 @@ use Rattle.row_index.proofs.Entries.{leaf-of-entry}
 use Rattle.row_index.proofs.IndexExact.{same-is-equal, equal-is-same}
 use Rattle.little.specs.LittleEndian.{Below}
 use Rattle.little.proofs.LittleEndian.{each-below}
-use Rattle.kept_rows.specs.Kind2.{Counted, keptForm2, readKept2}
+use Rattle.kept_rows.specs.Kind2.{keptForm2, readKept2}
 use Rattle.kept_rows.proofs.RoundTrip.{kind-2-reads-back, the-only-kept-form-2}
 use Rattle.kept_check.specs.Check.{countedOf, bearsOut, checkKept2}
 

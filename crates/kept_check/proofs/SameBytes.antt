@@ -1,12 +1,12 @@
 -- Each way and back gives the same bytes: a file has one record of each kind, and each way leads from the one to the other.
-use Prim.Native.Nat.{ℕ, _+_, _*_, _≤_}
+use Prim.Native.Nat.{ℕ, _+_, _≤_}
 use native.Mathlib.Omega.{arith}
-use mathlib.Core.Path.{_≡_, refl, _∙_, sym, ap}
+use mathlib.Core.Path.{_≡_, _∙_, sym, ap}
 use mathlib.Core.Bool.{Bool}
-use mathlib.Core.List.{List, []}
+use mathlib.Core.List.{List}
 use lib.ListN.{length}
 use Rattle.label.specs.declared.Versions.{Versions}
-use Rattle.answer.specs.Outcome.{Outcome, answer, need, andThen}
+use Rattle.answer.specs.Outcome.{answer, need, andThen}
 use Rattle.answer.proofs.Outcomes.{after-answer}
 use Rattle.sfdu.specs.Row.{Row}
 use Rattle.sfdu.specs.Check.{rowsOfFile}

@@ -16,7 +16,7 @@ use Rattle.house_record.proofs.Reading.{accepted, all-there, record-reads}
 use Rattle.house_record.proofs.Writing.{in-two-pieces}
 use Rattle.house_record.proofs.RoundTrip.{entries-are-the-rest}
 use Rattle.kept_rows.specs.declared.Loaded.{Loaded}
-use Rattle.kept_rows.specs.Kind2.{withRows, readKept2, listOf, loadedOf, toKind1}
+use Rattle.kept_rows.specs.Kind2.{withRows, listOf, loadedOf, toKind1}
 
 -- the row count, where bytes are a record of kind 2
 pub rows-are-there : (s : List ℕ) → isKept 2 10 s ≡ true → numberAt s 6 ≡ leNumber (bytesAt s 6 4)

@@ -5,7 +5,7 @@ use native.Mathlib.Omega.{arith}
 use mathlib.Core.Path.{_≡_, refl, _∙_, sym, ap}
 use mathlib.Core.List.{List}
 use lib.ListN.{length}
-use Rattle.answer.specs.Outcome.{Outcome, answer, mapped}
+use Rattle.answer.specs.Outcome.{answer, mapped}
 use Rattle.answer.specs.Window.{bytesAt}
 use Rattle.answer.proofs.Outcomes.{mapped-answer}
 use Rattle.little.specs.LittleEndian.{le, leNumber, Below}

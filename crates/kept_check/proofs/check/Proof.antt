@@ -5,7 +5,7 @@ use mathlib.Core.Bool.{Bool}
 use lib.Dec.{eqb}
 use borrow.Author.Tests.{eq-eqb, ne-eqb}
 use denote.Ref.{now}
-use Rattle.answer.specs.Outcome.{Outcome, answer, need}
+use Rattle.answer.specs.Outcome.{answer, need}
 use Rattle.answer.specs.Counted.{counted}
 use Rattle.answer.specs.Window.{bytesAt}
 use Rattle.answer.proofs.Outcomes.{after-answer, after-refusal}

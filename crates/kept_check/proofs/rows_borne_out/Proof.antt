@@ -1,7 +1,7 @@
 -- `kept_check::rows_borne_out` meets its contract: refused as the check refuses, no record, another number of entries, or compared. What
 -- the check's count says is `is`, and that the bytes are a record `is-a-record`.
 use native.Mathlib.Omega.{arith}
-use Prim.Native.Nat.{ℕ, _+_, _-_, _/_}
+use Prim.Native.Nat.{_+_, _-_, _/_}
 use mathlib.Core.Path.{_≡_, _∙_, sym, ap}
 use mathlib.Core.Bool.{true}
 use lib.ListN.{length, drop}
