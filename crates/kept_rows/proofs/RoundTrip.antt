@@ -3,7 +3,7 @@
 use Prim.Native.Nat.{ℕ, _+_, _*_, _^_, _<_}
 use native.Mathlib.Omega.{arith}
 use mathlib.Core.Path.{_≡_, refl, _∙_, sym, ap}
-use mathlib.Core.List.{List}
+use mathlib.Core.List.{List, [], _∷_}
 use lib.ListN.{length}
 use Rattle.answer.specs.Outcome.{answer, mapped}
 use Rattle.answer.specs.Window.{bytesAt}
@@ -35,3 +35,8 @@ the-only-kept-form-2 s k bytes reads =
     ap keptForm2 (sym is)
     ∙ ap (λ (between : List ℕ). keptAs 2 between xs) (field-again 2 10 s xs (omega arith) bytes read 6 4 (leNumber (bytesAt s 6 4)) (a .long) refl)
     ∙ read-is-kept 2 10 s xs (omega arith) bytes read
+
+-- a worked case, byte for byte: 0x010203 rows and the entry 20
+pub one-entry-kept : keptForm2 (record { rows = 66051; list = 20 ∷ [] }) ≡ 10 ∷ 0 ∷ 0 ∷ 0 ∷ 2 ∷ 0 ∷ 3 ∷ 2 ∷ 1 ∷ 0 ∷ 20 ∷ 0 ∷ 0 ∷ 0 ∷ []
+unfolding keptAs
+one-entry-kept = refl
