@@ -26,6 +26,7 @@ ghost use Rattle.label.specs.Version.{versionNumber};
 ghost use Rattle.label.specs.Label.{readLabel};
 ghost use Rattle.reader.specs.Rows.{checkFile};
 ghost use Rattle.reader.specs.Read.{readRow, jumpRow, rowFrom};
+ghost use Rattle.substitute.specs.Substitute.{readEither};
 ghost use Rattle.row_index.specs.Index.{indexOf, builtOf, buildIndex, accepted, checkIndex};
 ghost use Rattle.kept.specs.Kept.{keepIndex, loadKept};
 ghost use Rattle.kept_rows.specs.Kind2.{listOf, loadedOf, loadKept2, toKind1};
@@ -38,7 +39,7 @@ ghost use Rattle.burst_fields.specs.Fields.{fieldOf, fieldVerdict};
 ghost use Rattle.burst_codes.specs.Beams.{verdictIn, beamsOf};
 ghost use Rattle.burst_codes.specs.Modes.{numbered};
 ghost use Rattle.hand.specs.Handed.{resultOf, handed};
-ghost use Rattle.hand.specs.Parts.{fourBytes, rowNumbers, sideNumber, inNumbers, beamsHanded, modeHanded};
+ghost use Rattle.hand.specs.Parts.{fourBytes, rowNumbers, sourceNumber, sideNumber, inNumbers, beamsHanded, modeHanded};
 ghost use Rattle.hand.specs.Numbers.{choiceOf, writeNumbered};
 
 // The label at the front of the bytes.
@@ -286,6 +287,28 @@ pub extern "C" fn crest_row_from_bursts(
     ensures { λ _. ⌜ now (shown .exit) ≡ handed (rowNumbers (now (shown .entry))) (rowFrom (Kind.Bursts start) (now (file .entry)) from) (now (shown .entry)) ⌝ }
 {
     hand::row(bursts::row_from(file, start, from), shown)
+}
+
+// A row of a labelled file, whole, from its substitute where that has it, else from the original; and
+// which of the two it came from: 0 the original, 1 the substitute.
+#[no_mangle]
+pub extern "C" fn crest_substitute_row(
+    original: &[u8],
+    substitute: &[u8],
+    version_2: bool,
+    row: usize,
+    source: &mut usize,
+    shown: &mut [usize; 6],
+) -> Result
+    ensures { λ r. ⌜ r ≡ resultOf (readEither (choiceOf version_2) (now (original .entry)) (now (substitute .entry)) row) ⌝ }
+    ensures { λ _. ⌜ now (source .exit) ≡ handed (λ c. sourceNumber (c .source)) (readEither (choiceOf version_2) (now (original .entry)) (now (substitute .entry)) row) (now (source .entry)) ⌝ }
+    ensures { λ _. ⌜ now (shown .exit) ≡ handed (λ c. rowNumbers (now (shown .entry)) (c .row)) (readEither (choiceOf version_2) (now (original .entry)) (now (substitute .entry)) row) (now (shown .entry)) ⌝ }
+{
+    hand::chosen(
+        substitute::read_row(hand::choice(version_2), original, substitute, row),
+        source,
+        shown,
+    )
 }
 
 // Writes the index of a labelled file to the front of the list.

@@ -42,7 +42,7 @@ pub fn check(kind: Kind, file: &[u8]) -> Count
 }
 
 // Row `k`, whole, found from the first byte.
-fn find_row(kind: Kind, file: &[u8], k: usize) -> Show
+pub fn find_row(kind: Kind, file: &[u8], k: usize) -> Show
     ensures { λ r. ⌜ shown r ≡ findRow kind (now (file .entry)) k ⌝ }
 {
     match kind {

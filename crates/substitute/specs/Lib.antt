@@ -1,0 +1,3 @@
+pub mod Chosen
+pub mod Substitute
+pub mod Serving
