@@ -46,13 +46,13 @@ module _ (v : Versions) where
     substitute-refused n p e = by-serving false (serves-where-read substitute k ∙ ap answers e)
 
     -- the row of the file that is told
-    shows-chosen : (row : Chosen) → readEither v original substitute k ≡ answer row → ShowsRow (Labelled v) (fileNamed (row .source) original substitute) k (row .row)
+    shows-chosen : (found : Chosen) → readEither v original substitute k ≡ answer found → ShowsRow (Labelled v) (fileNamed (found .source) original substitute) k (found .row)
     unfolding readEither
-    shows-chosen row e =
+    shows-chosen found e =
         let source = sourceOf v substitute k in
         let f = fileNamed source original substitute in
-        let (shown, found, is) = mapped-answer (from source) (rowOf (Labelled v) f k) row e in
-        subst (λ (c : Chosen). ShowsRow (Labelled v) (fileNamed (c .source) original substitute) k (c .row)) is (shows-the-row (Labelled v) f k shown found)
+        let (row, read, is) = mapped-answer (from source) (rowOf (Labelled v) f k) found e in
+        subst (λ (c : Chosen). ShowsRow (Labelled v) (fileNamed (c .source) original substitute) k (c .row)) is (shows-the-row (Labelled v) f k row read)
 
     refused-by : (n p : ℕ) (t : Bool) → serves v substitute k ≡ t → readEither v original substitute k ≡ refuse n p
         → (serves v substitute k ≡ false) × (serves v original k ≡ false) × (rowOf (Labelled v) original k ≡ refuse n p)

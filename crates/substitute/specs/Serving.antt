@@ -41,5 +41,5 @@ pub record Serving (versions : Versions) (original substitute : List ℕ) (k : �
       → (readEither versions original substitute k ≡ refuse n p)
       ↔ ((serves versions substitute k ≡ false) × (serves versions original k ≡ false) × (rowOf (Labelled versions) original k ≡ refuse n p))
   -- what is shown is row k of the file that is told
-  pub shows : (row : Chosen) → readEither versions original substitute k ≡ answer row
-      → ShowsRow (Labelled versions) (fileNamed (row .source) original substitute) k (row .row)
+  pub shows : (found : Chosen) → readEither versions original substitute k ≡ answer found
+      → ShowsRow (Labelled versions) (fileNamed (found .source) original substitute) k (found .row)

@@ -60,12 +60,12 @@ pub fn read_row(versions: Versions, original: &[u8], substitute: &[u8], k: usize
 
 // The bytes of a row that was chosen, lent again from the file that it came from. Of a row that no call
 // chose for these files, what of it lies in the file that it names.
-pub fn bytes_of<'a>(original: &'a [u8], substitute: &'a [u8], row: Chosen) -> &'a [u8]
-    ensures { λ r. ⌜ now r ≡ bytesAt (fileNamed (row .source) (now (original .entry)) (now (substitute .entry))) (row .row .part .place) (row .row .part .count) ⌝ }
+pub fn bytes_of<'a>(original: &'a [u8], substitute: &'a [u8], found: Chosen) -> &'a [u8]
+    ensures { λ r. ⌜ now r ≡ bytesAt (fileNamed (found .source) (now (original .entry)) (now (substitute .entry))) (found .row .part .place) (found .row .part .count) ⌝ }
 {
-    let shown = row.row;
-    let part = shown.part;
-    let source = row.source;
+    let row = found.row;
+    let part = row.part;
+    let source = found.source;
     match source {
         Source::Original => answer::bytes_of(original, part),
         Source::Substitute => answer::bytes_of(substitute, part),

@@ -12,11 +12,11 @@ use Rattle.substitute.proofs.bytes_of.Statement.{statement}
 use Rattle.substitute.proofs.bytes_of.Tie as tie
 
 -- the row's bytes in the file that it names
-of-the-named : (original substitute : List ℕ) (row : Chosen) {s : Source} → row .source ≡ s
-    → bytesAt (fileNamed s original substitute) (row .row .part .place) (row .row .part .count)
-    ≡ bytesAt (fileNamed (row .source) original substitute) (row .row .part .place) (row .row .part .count)
-of-the-named original substitute row e =
-    ap (λ (s : Source). bytesAt (fileNamed s original substitute) (row .row .part .place) (row .row .part .count)) (sym e)
+of-the-named : (original substitute : List ℕ) (found : Chosen) {s : Source} → found .source ≡ s
+    → bytesAt (fileNamed s original substitute) (found .row .part .place) (found .row .part .count)
+    ≡ bytesAt (fileNamed (found .source) original substitute) (found .row .part .place) (found .row .part .count)
+of-the-named original substitute found e =
+    ap (λ (s : Source). bytesAt (fileNamed s original substitute) (found .row .part .place) (found .row .part .count)) (sym e)
 
 enum-told : tie.Need-enum-told
 enum-told c = search needs
@@ -33,12 +33,12 @@ bytes-of-requires-2 c κs = search needs
 returns : tie.Need-returns
 returns c =
     let a = c .before .before .before .before .before .before .before .args in
-    c .bytes-of .ensures ∙ of-the-named (now (a .original)) (now (a .substitute)) (a .row) (c .before .enum-told .given .1)
+    c .bytes-of .ensures ∙ of-the-named (now (a .original)) (now (a .substitute)) (a .found) (c .before .enum-told .given .1)
 
 returns-2 : tie.Need-returns-2
 returns-2 c =
     let a = c .before .before .before .before .before .before .before .args in
-    c .bytes-of2 .ensures ∙ of-the-named (now (a .original)) (now (a .substitute)) (a .row) (c .before .enum-told2 .given .1)
+    c .bytes-of2 .ensures ∙ of-the-named (now (a .original)) (now (a .substitute)) (a .found) (c .before .enum-told2 .given .1)
 
 pub bytes-of-spec : {M : Type 1} → statement M
 bytes-of-spec =
