@@ -59,7 +59,8 @@ labelled-jump-fills v f xs k row e =
     let (leaf, came, is) = first-answered (walkFrom v f entry _) rowAtLeaf row walks in
     subst (λ (x : Shown). LabelFilled (x .address)) (answer-injective is) (record { label = tt; depth = tt; outermost = tt })
 
-row-filled : (kind : Kind) (f : List ℕ) (k : ℕ) (row : Shown) → findRow kind f k ≡ answer row → AllFilled (row .address)
+-- a row of any kind, read; and jumped to
+pub row-filled : (kind : Kind) (f : List ℕ) (k : ℕ) (row : Shown) → findRow kind f k ≡ answer row → AllFilled (row .address)
 unfolding findRow
 row-filled (Labelled v) f k row e = labelled-fills v f k row e
 row-filled Waveform f k row e = fixed-fills waveform (readStart 0 (step waveform) f k) row e

@@ -25,6 +25,7 @@ use Rattle.reader.specs.declared.Kind.{Kind}
 use Rattle.reader.proofs.Found.{row-inside}
 use Rattle.reader.proofs.Rows.{reads-the-rows}
 use Rattle.reader.proofs.Demand2.{demand-2}
+use Rattle.reader.proofs.Filling.{row-filled}
 use Rattle.substitute.specs.Substitute.{has}
 use Rattle.substitute.specs.Serving.{ShowsRow}
 
@@ -67,10 +68,11 @@ module _ (kind : Kind) (f : List ℕ) (k : ℕ) where
       ap (λ (bs : List (List ℕ)). nth bs k) by-rows ∙ nth-of-map (shownBytes f) rows k ∙ ap (mapped (shownBytes f)) at
 
   pub shows-the-row : (row : Shown) → rowOf kind f k ≡ answer row → ShowsRow kind f k row
-  shows-the-row row e = record {
-    is-row = e;
-    size =
-        length-take-le (row .part .count) (drop (row .part .place) f)
-        (omega (arith, length-drop (row .part .place) f, row-inside kind f k row (reads-the-rows kind f k ∙ e)));
-    bytes = bytes-of-the-row row e;
-  }
+  shows-the-row row e =
+      let found = reads-the-rows kind f k ∙ e in
+      record {
+        is-row = e;
+        address = row-filled kind f k row found;
+        size = length-take-le (row .part .count) (drop (row .part .place) f) (omega (arith, length-drop (row .part .place) f, row-inside kind f k row found));
+        bytes = bytes-of-the-row row e;
+      }

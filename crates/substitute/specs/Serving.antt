@@ -12,7 +12,7 @@ use Rattle.answer.specs.declared.Shown.{Shown}
 use Rattle.label.specs.declared.Versions.{Versions}
 use Rattle.reader.specs.Rows.{rowOf}
 use Rattle.reader.specs.Demand2.{Division, Divides, bytesIn}
-use Rattle.reader.specs.Demand3.{shownBytes}
+use Rattle.reader.specs.Demand3.{shownBytes, AllFilled}
 use Rattle.reader.specs.declared.Kind.{Kind}
 use Rattle.reader.specs.declared.Kind.the-variants.{Labelled}
 use Rattle.substitute.specs.Chosen.{fileNamed, from}
@@ -20,10 +20,11 @@ use Rattle.substitute.specs.Substitute.{serves, readEither}
 use Rattle.substitute.specs.declared.Source.the-variants.{Original, Substitute}
 use Rattle.substitute.specs.declared.Chosen.{Chosen}
 
--- the whole of row k of a file is shown, as demand 2 gives the rows: all its bytes lie in the file, and they are those of the row in the
--- division of the file, of a labelled one the value of a leaf
+-- the whole of row k of a file is shown, as demand 2 gives the rows, with every part of its address: all its bytes lie in the file, and
+-- they are those of the row in the division of the file, of a labelled one the value of a leaf
 pub record ShowsRow (kind : Kind) (f : List ℕ) (k : ℕ) (row : Shown) : Type 0 where
   pub is-row : rowOf kind f k ≡ answer row
+  pub address : AllFilled (row .address)
   pub size : length (shownBytes f row) ≡ row .part .count
   pub bytes : (d : Division kind) → Divides kind f d → nth (bytesIn kind d) k ≡ answer (shownBytes f row)
 
