@@ -19,7 +19,7 @@ use Rattle.answer.proofs.Outcomes.{first-answered}
 use Rattle.answer.proofs.Nths.{nth-is-there, nth-is-not, nth-of-map}
 use Rattle.reader.specs.Rows.{rowParts, checkFile, rowOf}
 use Rattle.reader.specs.Read.{findRow}
-use Rattle.reader.specs.Demand2.{Division, Divides, rowsIn, bytesIn}
+use Rattle.reader.specs.Demand2.{Division, Divides, bytesIn}
 use Rattle.reader.specs.Demand3.{shownBytes}
 use Rattle.reader.specs.declared.Kind.{Kind}
 use Rattle.reader.proofs.Found.{row-inside}
