@@ -68,6 +68,12 @@ enum crest_nesting {
     CREST_KNOWN = 1
 };
 
+/* Which of the two files crest_substitute_row shows a row of. */
+enum crest_source {
+    CREST_ORIGINAL = 0,
+    CREST_SUBSTITUTE = 1
+};
+
 enum crest_refusal {
     CREST_SHORT = 1,
     CREST_BADLABEL = 2,
@@ -302,6 +308,18 @@ crest_result crest_row_from_waveform(const uint8_t *file, size_t file_len, uint6
  * Writes: shown, of which place is from, bytes is 1,272 and nesting is known.
  */
 crest_result crest_row_from_bursts(const uint8_t *file, size_t file_len, uint64_t start, uint64_t from, crest_row *shown);
+
+/* ---- A labelled file and its substitute ---- */
+
+/*
+ * substitute::read_row. Gives a whole row of the substitute, if crest_check_labelled accepts that file and it has the row; the
+ * original is then not looked at. Else it gives the whole row of the original. version_2 holds for both files.
+ * Refuses: only where neither file serves, and then for the original alone: as crest_check_labelled; then NOROW.
+ * Writes: source, one of enum crest_source; shown, whose places are those in that file, of which bytes is the row's length and
+ * nesting is known.
+ */
+crest_result crest_substitute_row(const uint8_t *original, size_t original_len, const uint8_t *substitute,
+                                  size_t substitute_len, bool version_2, uint64_t row, uint64_t *source, crest_row *shown);
 
 /* ---- The index of a labelled file, and what is kept of it ---- */
 

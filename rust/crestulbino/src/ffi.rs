@@ -120,6 +120,7 @@ unsafe extern "C" {
     fn crest_row_from_labelled(file: *const u8, file_len: usize, version_2: bool, from: u64, shown: *mut RowNumbers) -> Outcome;
     fn crest_row_from_waveform(file: *const u8, file_len: usize, from: u64, shown: *mut RowNumbers) -> Outcome;
     fn crest_row_from_bursts(file: *const u8, file_len: usize, start: u64, from: u64, shown: *mut RowNumbers) -> Outcome;
+    fn crest_substitute_row(original: *const u8, original_len: usize, substitute: *const u8, substitute_len: usize, version_2: bool, row: u64, source: *mut u64, shown: *mut RowNumbers) -> Outcome;
     fn crest_build_index(file: *const u8, file_len: usize, version_2: bool, list: *mut u32, list_len: usize, entries: *mut u64, rows: *mut u64) -> Outcome;
     fn crest_check_index(file: *const u8, file_len: usize, version_2: bool, list: *const u32, list_len: usize) -> Outcome;
     fn crest_keep_index(list: *const u32, list_len: usize, out: *mut u8, out_len: usize, written: *mut u64) -> Outcome;
@@ -397,6 +398,31 @@ pub(crate) fn row_from_bursts<'m>(
 }
 
 #[inline]
+pub(crate) fn substitute_row<'m>(
+    original: &[u8],
+    substitute: &[u8],
+    version_2: bool,
+    row: u64,
+    source: &mut u64,
+    shown: &'m mut RowMemory,
+) -> Shown<'m> {
+    // SAFETY: `original` and `substitute` are shared slices with their lengths; `source` and `shown` are lent alone.
+    unsafe {
+        let outcome = crest_substitute_row(
+            original.as_ptr(),
+            original.len(),
+            substitute.as_ptr(),
+            substitute.len(),
+            version_2,
+            row,
+            source,
+            shown.as_mut_ptr(),
+        );
+        written(outcome, shown)
+    }
+}
+
+#[inline]
 pub(crate) fn build_index(
     file: &[u8],
     version_2: bool,
@@ -639,6 +665,9 @@ mod tests {
     const EMPTY_1: [u8; 6] = [2, 0, 0, 0, 1, 0];
     const EMPTY_2: [u8; 10] = [6, 0, 0, 0, 2, 0, 0, 0, 0, 0];
 
+    /// A labelled file of one row.
+    const ROW: &[u8; 23] = b"NJPL1I00DEMO00000003abc";
+
     /// The header allows a null pointer with length 0, which no slice has.
     #[test]
     fn an_empty_slice_may_be_a_null_pointer() {
@@ -657,8 +686,9 @@ mod tests {
         };
         let mut shown = sevens;
         let heads = [(1, b"NJPL1I00DEMO"), (2, b"NJPL2I00DEMO")];
-        // SAFETY: each pointer with a length is null with length 0, or that of a head or of a kept
-        // index with its length; the others point to the variables above, no two of a call to the same.
+        // SAFETY: each pointer with a length is null with length 0, or that of a head, of a kept index
+        // or of a file with its length; the others point to the variables above, no two of a call to the
+        // same.
         unsafe {
             for version_2 in [false, true] {
                 let label = crest_read_label(
@@ -680,6 +710,9 @@ mod tests {
                 assert_eq!(jumped, refused(6));
                 let row = crest_row_from_labelled(null(), 0, version_2, 0, &mut shown);
                 assert_eq!(row, refused(6));
+                let chosen =
+                    crest_substitute_row(null(), 0, null(), 0, version_2, 0, &mut one, &mut shown);
+                assert_eq!(chosen, refused(6));
                 // No file and no record; no file, a record of no entries and no room.
                 let kept = crest_check_kept2(null(), 0, version_2, null(), 0);
                 assert_eq!(kept, refused(13));
@@ -761,6 +794,22 @@ mod tests {
                 let built =
                     crest_build_index(null(), 0, version_2, null_mut(), 0, &mut one, &mut two);
                 assert_eq!((built, one, two), (ANSWERED, 0, 0));
+                // One file of the two, and in place of the other a null pointer.
+                let (row, none) = ((ROW.as_ptr(), ROW.len()), (null(), 0));
+                for (original, substitute, source) in [(row, none, 0), (none, row, 1)] {
+                    one = 7;
+                    let chosen = crest_substitute_row(
+                        original.0,
+                        original.1,
+                        substitute.0,
+                        substitute.1,
+                        version_2,
+                        0,
+                        &mut one,
+                        &mut shown,
+                    );
+                    assert_eq!((chosen, one, shown.place), (ANSWERED, source, 20));
+                }
                 let index = crest_check_index(null(), 0, version_2, null(), 0);
                 assert_eq!(index, ANSWERED);
                 let kept = crest_check_kept2(null(), 0, version_2, EMPTY_2.as_ptr(), 10);

@@ -1,6 +1,6 @@
 //! Files of all kinds: checked, read from the first byte, jumped into, gone through row by row.
 
-use crate::ffi::{self, Outcome, RowMemory, Shown};
+use crate::ffi::{self, Outcome, RowMemory, Shown, Written};
 use crate::label::Versions;
 use crate::refusal::{other_version, Refused};
 use std::iter::FusedIterator;
@@ -387,18 +387,24 @@ impl FusedIterator for Rows<'_> {}
 fn shown(file: &[u8], call: impl FnOnce(&mut RowMemory) -> Shown<'_>) -> Result<Row<'_>, Refused> {
     let mut memory = RowMemory::uninit();
     let row = call(&mut memory).map_err(Outcome::refused)?;
+    Ok(row_of(file, row))
+}
+
+/// A row that a call has answered, with its part of the file.
+#[inline]
+pub(crate) fn row_of<'a>(file: &'a [u8], row: Written<'_>) -> Row<'a> {
     let nesting = row.nesting().map(|(depth, outermost)| Nesting {
         depth: depth as usize,
         outermost: outermost as usize,
     });
-    Ok(Row {
+    Row {
         place: row.place() as usize,
         bytes: part(file, row.place(), row.bytes()),
         address: Address {
             label: row.label() as usize,
             nesting,
         },
-    })
+    }
 }
 
 /// The part of a file that a call named.

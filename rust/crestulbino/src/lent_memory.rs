@@ -137,20 +137,27 @@ fn shows(
         let mut shown = Lent::new(1, salt);
         let before: RowNumbers = *shown.number();
         let given = call(ffi::lent(shown.number()));
-        let given = given.map(|row| (row.place(), row.bytes(), row.label(), row.nesting()));
-        assert_eq!(given, expected, "{name}");
-        let answer = expected.ok().map(|(place, bytes, label, nesting)| {
-            let (depth, outermost) = nesting.unwrap_or((before.depth, before.outermost));
-            RowNumbers {
-                place,
-                bytes,
-                label,
-                nesting: if nesting.is_some() { KNOWN } else { ABSENT },
-                depth,
-                outermost,
-            }
-        });
+        assert_eq!(parts(given), expected, "{name}");
+        let answer = expected.ok().map(|row| numbers(row, before));
         shown.assert_front(answer.as_slice());
+    }
+}
+
+/// What a call that answers a row came to.
+fn parts(given: ffi::Shown<'_>) -> Result<Shown, Outcome> {
+    given.map(|row| (row.place(), row.bytes(), row.label(), row.nesting()))
+}
+
+/// What stands in a row's memory when the row is answered, by what stood there before.
+fn numbers((place, bytes, label, nesting): Shown, before: RowNumbers) -> RowNumbers {
+    let (depth, outermost) = nesting.unwrap_or((before.depth, before.outermost));
+    RowNumbers {
+        place,
+        bytes,
+        label,
+        nesting: if nesting.is_some() { KNOWN } else { ABSENT },
+        depth,
+        outermost,
     }
 }
 
@@ -611,6 +618,94 @@ fn row_from_labelled() {
             ffi::row_from_labelled(MIXED, false, from, shown)
         });
     }
+}
+
+/// The call on two files, with the file that the row is shown from and the row for an answer.
+fn chooses(
+    original: &[u8],
+    substitute: &[u8],
+    version_2: bool,
+    row: u64,
+    expected: Result<(u64, Shown), Outcome>,
+) {
+    for salt in SALTS {
+        let (mut source, mut shown) = (Lent::new(1, salt), Lent::new(1, salt));
+        let before: RowNumbers = *shown.number();
+        let given = ffi::substitute_row(
+            original,
+            substitute,
+            version_2,
+            row,
+            source.number(),
+            ffi::lent(shown.number()),
+        );
+        assert_eq!(parts(given), expected.map(|(_, row)| row), "row {row}");
+        source.assert_front(expected.ok().map(|(source, _)| source).as_slice());
+        let answer = expected.ok().map(|(_, row)| numbers(row, before));
+        shown.assert_front(answer.as_slice());
+    }
+}
+
+#[test]
+fn substitute_row() {
+    const ORIGINAL: u64 = 0;
+    const SUBSTITUTE: u64 = 1;
+    const ROWS: [Shown; 2] = [(40, 3, 20, Some((2, 0))), (63, 0, 43, Some((2, 0)))];
+    // At other places and another depth, of other lengths, with a row more or a row less.
+    let more = b"NJPL1I00DEMO00000000NJPL1I00DEMO00000002xyNJPL1I00DEMO00000001z";
+    let (more, less) = (&more[..], &more[..20]);
+    let rows_of_more = [
+        (20, 0, 0, Some((1, 0))),
+        (40, 2, 20, Some((1, 20))),
+        (62, 1, 42, Some((1, 42))),
+    ];
+    let of_original = |row: Shown| Ok((ORIGINAL, row));
+    let of_substitute = |row: Shown| Ok((SUBSTITUTE, row));
+    let missing = [3, 1 << 32, 1 << 63, u64::MAX];
+    for (file, version_2) in ACCEPTED {
+        for (number, row) in (0..).zip(ROWS) {
+            for original in [more, less, file, &[]] {
+                chooses(original, file, version_2, number, of_substitute(row));
+            }
+            chooses(file, &[], version_2, number, of_original(row));
+        }
+        for (number, row) in (0..).zip(rows_of_more) {
+            chooses(file, more, version_2, number, of_substitute(row));
+        }
+        chooses(more, file, version_2, 2, of_original(rows_of_more[2]));
+        chooses(file, less, version_2, 0, of_substitute(rows_of_more[0]));
+        chooses(file, less, version_2, 1, of_original(ROWS[1]));
+        for number in missing {
+            for (one, other) in [(file, more), (more, file), (file, file), (file, &[])] {
+                chooses(one, other, version_2, number, Err(refused(6, 0)));
+            }
+        }
+    }
+    for (faulty, version_2, outcome) in refused_files() {
+        for (number, row) in (0..).zip(ROWS) {
+            chooses(&faulty, DEMO, version_2, number, of_substitute(row));
+            chooses(DEMO, &faulty, version_2, number, of_original(row));
+        }
+        for number in missing {
+            for other in [DEMO, less, &[]] {
+                chooses(&faulty, other, version_2, number, Err(outcome));
+                chooses(other, &faulty, version_2, number, Err(refused(6, 0)));
+            }
+        }
+        let short = (&b"CCSD1Z00000100000001x"[..], refused(1, 20));
+        let long = (&b"NJPL1I00DEMO00000001"[..], refused(4, 0));
+        for ((other, of_other), number) in [(short, 0), (short, u64::MAX), (long, 0)] {
+            chooses(&faulty, other, version_2, number, Err(outcome));
+            chooses(other, &faulty, version_2, number, Err(of_other));
+        }
+    }
+    // Version 1 only: a label of version 2, in front of a row or behind it, keeps a file from serving.
+    for file in [DEMO_2, MIXED] {
+        chooses(DEMO, file, false, 0, of_original(ROWS[0]));
+        chooses(file, DEMO, false, 0, of_substitute(ROWS[0]));
+    }
+    chooses(DEMO_2, MIXED, false, 0, Err(refused(2, 0)));
+    chooses(MIXED, DEMO_2, false, 0, Err(refused(2, 43)));
 }
 
 #[test]

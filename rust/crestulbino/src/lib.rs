@@ -30,6 +30,21 @@
 //! A row carries its [`Address`], to be looked up in a hex viewer: where its label stands, and, where it
 //! was read from the first byte, how it is nested.
 //!
+//! A labelled file may have a substitute. A row is shown from that one where it can be, and says so.
+//!
+//! ```
+//! use crestulbino::{substitute_row, Source, Versions};
+//!
+//! let original = b"NJPL1I00DEMO00000003abcNJPL1I00DEMO00000002de";
+//! let substitute = b"NJPL1I00DEMO00000003xyz";
+//!
+//! let first = substitute_row(Versions::One, original, substitute, 0)?;
+//! assert_eq!((first.source, first.row.bytes), (Source::Substitute, &b"xyz"[..]));
+//! let second = substitute_row(Versions::One, original, substitute, 1)?;
+//! assert_eq!((second.source, second.row.bytes), (Source::Original, &b"de"[..]));
+//! # Ok::<(), crestulbino::Refused>(())
+//! ```
+//!
 //! An index can be kept as bytes. A record of kind 2 has the file's row count too, so that who has the
 //! record knows it without the file.
 //!
@@ -96,6 +111,7 @@ mod label;
 mod lent_memory;
 mod numbers;
 mod refusal;
+mod substitute;
 
 pub use bursts::{
     beams, burst_field, burst_verdict, mode, Beams, Field, Mode, Text, BURST_BYTES, BURST_FIELDS,
@@ -111,3 +127,4 @@ pub use index::{
 pub use label::{read_label, write_label, Label, Version, Versions, LABEL_BYTES};
 pub use numbers::{opening, sample, vax_d, vax_d_dropped, vax_f, verdict, Opening, Verdict};
 pub use refusal::{Refusal, Refused};
+pub use substitute::{substitute_row, Chosen, Source};

@@ -106,7 +106,7 @@ fn declared_functions() -> Vec<Function> {
 #[test]
 fn declarations_are_those_of_the_header_in_its_order() {
     let header = header_functions();
-    assert_eq!(header.len(), 32);
+    assert_eq!(header.len(), 33);
     assert_eq!(declared_functions(), header);
 }
 
@@ -226,7 +226,7 @@ fn modes_have_the_header_s_numbers_and_names() {
 
 /// Each with the number that the crate takes it for.
 #[test]
-fn types_and_verdicts_have_their_numbers() {
+fn types_verdicts_and_sources_have_their_numbers() {
     let of = |name, words: &[&str]| {
         let expected: Vec<(String, u64)> = words
             .iter()
@@ -236,6 +236,7 @@ fn types_and_verdicts_have_their_numbers() {
         assert_eq!(enum_of(name), expected);
     };
     of("crest_verdict_number", &["BELOW", "INSIDE", "ABOVE"]);
+    of("crest_source", &["ORIGINAL", "SUBSTITUTE"]);
     of(
         "crest_field_type",
         &["UNSIGNED", "SIGNED", "FLOAT4", "FLOAT8", "TEXT"],
