@@ -16,6 +16,7 @@ pub mod labelled;
 pub mod orbit;
 pub mod refusal;
 pub mod row_index;
+pub mod substitute;
 pub mod vax;
 pub mod waveform;
 pub mod window;
