@@ -2,7 +2,7 @@
 
 use crate::words::{write_bytes, write_list};
 use crate::{Case, Library};
-use crestulbino::{Beams, Field, Kind, Refused, Row, Verdict};
+use crestulbino::{Beams, Field, Kind, Refused, Row, Source, Verdict};
 use std::fmt::{self, Display};
 
 /// The answer to a line that is no case.
@@ -86,6 +86,20 @@ pub fn answer(library: &Library, case: &Case) -> String {
             window,
         } => shown((library.jump_bursts)(file, *start, *row, *window)),
         Case::RowFrom { kind, file, from } => shown((library.row_from)(*kind, file, *from)),
+        Case::SubstituteRow {
+            original,
+            substitute,
+            row,
+            versions,
+        } => line(
+            (library.substitute_row)(*versions, original, substitute, *row).map(|chosen| {
+                let source = match chosen.source {
+                    Source::Original => "original",
+                    Source::Substitute => "substitute",
+                };
+                format!("{source} {}", RowParts(chosen.row))
+            }),
+        ),
         Case::BuildIndex {
             file,
             list,
@@ -186,14 +200,7 @@ fn line(answer: Result<impl Display, Refused>) -> String {
 }
 
 fn shown(answer: Result<Row<'_>, Refused>) -> String {
-    line(answer.map(|row| {
-        let (depth, outermost) = match row.address.nesting {
-            Some(nesting) => (nesting.depth.to_string(), nesting.outermost.to_string()),
-            None => (ABSENT.to_string(), ABSENT.to_string()),
-        };
-        let (bytes, label) = (Bytes(row.bytes), row.address.label);
-        format!("{} {bytes} {label} {depth} {outermost}", row.place)
-    }))
+    line(answer.map(RowParts))
 }
 
 /// Lends a copy of the case's memory to a call, and shows it behind the answer.
@@ -205,6 +212,26 @@ fn writes<T: Copy, Answer: Display, Shown: Display>(
     let mut memory = memory.to_vec();
     let answer = line(call(&mut memory));
     format!("{answer} {}", show(memory))
+}
+
+/// A row with its address.
+struct RowParts<'a>(Row<'a>);
+
+impl Display for RowParts<'_> {
+    fn fmt(&self, f: &mut fmt::Formatter<'_>) -> fmt::Result {
+        let row = self.0;
+        write!(
+            f,
+            "{} {} {} ",
+            row.place,
+            Bytes(row.bytes),
+            row.address.label
+        )?;
+        match row.address.nesting {
+            Some(nesting) => write!(f, "{} {}", nesting.depth, nesting.outermost),
+            None => write!(f, "{ABSENT} {ABSENT}"),
+        }
+    }
 }
 
 struct Bytes<B>(B);

@@ -80,6 +80,7 @@ cases! {
     "jump_waveform" JumpWaveform { file: Vec<u8>, row: usize, window: Window }
     "jump_bursts" JumpBursts { file: Vec<u8>, start: usize, row: usize, window: Window }
     "row_from" RowFrom { kind: Kind, file: Vec<u8>, from: usize }
+    "substitute_row" SubstituteRow { original: Vec<u8>, substitute: Vec<u8>, row: usize, versions: Versions }
     "build_index" BuildIndex { file: Vec<u8>, list: Vec<u32>, versions: Versions }
     "check_index" CheckIndex { file: Vec<u8>, list: Vec<u32>, versions: Versions }
     "keep_index" KeepIndex { list: Vec<u32>, buffer: Vec<u8> }
@@ -127,6 +128,8 @@ mod tests {
             "row_from waveform - 0",
             "row_from bursts:0 00 5",
             "row_from bursts:18446744073709551615 - 18446744073709551615",
+            "substitute_row 00 01ff 18446744073709551615 1",
+            "substitute_row - - 0 2",
             "check_bursts 00 1",
             "read_row_bursts - 18446744073709551615 1 2 3",
             "jump_bursts 00ff 1 18446744073709551615 2 3",
@@ -150,6 +153,7 @@ mod tests {
                 format!("check_labelled - {versions}"),
                 format!("read_row_labelled - 0 0 0 {versions}"),
                 format!("jump_labelled - - 0 0 0 {versions}"),
+                format!("substitute_row - - 0 {versions}"),
                 format!("build_index - - {versions}"),
                 format!("check_index - - {versions}"),
                 format!("convert_1_to_2 - - - {versions}"),
@@ -211,6 +215,7 @@ mod tests {
             ("row_from waveform 0102 77", "row_from waveform - 0"),
             ("row_from labelled2 0102 77", "row_from labelled1 - 0"),
             ("row_from bursts:12 0102 77", "row_from bursts:0 - 0"),
+            ("substitute_row 0102 03 4 2", "substitute_row - - 0 1"),
             ("burst_field 0102 3 4 5", "burst_field - 0 0 0"),
             ("jump_bursts 0102 3 4 5 6", "jump_bursts - 0 0 0 0"),
             ("beams 33", "beams 0"),
@@ -240,6 +245,17 @@ mod tests {
         let still = |trial: &Case| trial.to_string().contains("labelled2");
         shrunk.shrink(&mut |trial| Some(still(trial))).unwrap();
         assert_eq!(shrunk, case("row_from labelled2 - 0"));
+        let mut shrunk = case("substitute_row 0102 0304 5 2");
+        let still = |trial: &Case| match trial {
+            Case::SubstituteRow {
+                original,
+                substitute,
+                ..
+            } => original.contains(&1) && substitute.contains(&4),
+            _ => false,
+        };
+        shrunk.shrink(&mut |trial| Some(still(trial))).unwrap();
+        assert_eq!(shrunk, case("substitute_row 01 04 0 1"));
         let mut shrunk = case("row_from bursts:2000 0102 5");
         let still = |trial: &Case| match trial {
             Case::RowFrom { kind, .. } => kind.first_place() >= 7,

@@ -5,7 +5,7 @@ mod second;
 pub use second::INDEPENDENT;
 
 use crestulbino::{
-    Beams, Built, Field, Kept2, Kind, Label, Mode, Opening, Refused, Row, Verdict, Version,
+    Beams, Built, Chosen, Field, Kept2, Kind, Label, Mode, Opening, Refused, Row, Verdict, Version,
     Versions, Window,
 };
 
@@ -14,6 +14,9 @@ pub type Answer<T> = Result<T, Refused>;
 
 /// A jump into a labelled file, whose row borrows from the file alone.
 pub type JumpLabelled = for<'a> fn(Versions, &'a [u8], &[u32], usize, Window) -> Answer<Row<'a>>;
+
+/// A row of an original file or of its substitute.
+pub type SubstituteRow = for<'a> fn(Versions, &'a [u8], &'a [u8], usize) -> Answer<Chosen<'a>>;
 
 /// From a file and its kept index of kind 1 to one of kind 2.
 pub type Convert1To2 = fn(Versions, &[u8], &[u8], &mut [u8]) -> Answer<usize>;
@@ -29,6 +32,7 @@ pub struct Library {
     pub jump_waveform: fn(&[u8], usize, Window) -> Answer<Row<'_>>,
     pub jump_bursts: fn(&[u8], usize, usize, Window) -> Answer<Row<'_>>,
     pub row_from: fn(Kind, &[u8], usize) -> Answer<Row<'_>>,
+    pub substitute_row: SubstituteRow,
     pub build_index: fn(Versions, &[u8], &mut [u32]) -> Answer<Built>,
     pub check_index: fn(Versions, &[u8], &[u32]) -> Answer<()>,
     pub keep_index: fn(&[u32], &mut [u8]) -> Answer<usize>,
@@ -59,6 +63,7 @@ pub const PROVED: Library = Library {
     jump_waveform: crestulbino::jump_waveform,
     jump_bursts: crestulbino::jump_bursts,
     row_from: crestulbino::row_from,
+    substitute_row: crestulbino::substitute_row,
     build_index: crestulbino::build_index,
     check_index: crestulbino::check_index,
     keep_index: crestulbino::keep_index,

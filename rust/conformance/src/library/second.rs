@@ -2,12 +2,12 @@
 
 use super::Library;
 use crestulbino::{
-    Address, Beams, Built, Field, Kept2, Kind, Label, Mode, Nesting, Opening, Refusal, Refused,
-    Row, Text, Verdict, Version, Versions, Window,
+    Address, Beams, Built, Chosen, Field, Kept2, Kind, Label, Mode, Nesting, Opening, Refusal,
+    Refused, Row, Source, Text, Verdict, Version, Versions, Window,
 };
 use independent::refusal::{self, Reason};
 use independent::{
-    altimeter, bursts, kept, label, labelled, orbit, row_index, vax, waveform, window,
+    altimeter, bursts, kept, label, labelled, orbit, row_index, substitute, vax, waveform, window,
 };
 
 /// The second implementation, written from the documents alone.
@@ -62,6 +62,17 @@ pub const INDEPENDENT: Library = Library {
             Kind::Labelled(versions) => labelled::row_from(taken(versions), file, from as u64),
             Kind::Waveform => waveform::row_from(file, from as u64),
             Kind::Bursts(start) => bursts::row_from(file, start as u64, from as u64),
+        })
+    },
+    substitute_row: |versions, original, substitute, row| {
+        let choice = substitute::row(taken(versions), original, substitute, row as u64);
+        let choice = choice.map_err(refused)?;
+        Ok(Chosen {
+            source: match choice.origin {
+                substitute::Origin::Original => Source::Original,
+                substitute::Origin::Substitute => Source::Substitute,
+            },
+            row: row_of(choice.part),
         })
     },
     build_index: |versions, file, list| {
