@@ -2,6 +2,7 @@
 
 mod second;
 
+pub(crate) use second::taken;
 pub use second::INDEPENDENT;
 
 use crestulbino::{

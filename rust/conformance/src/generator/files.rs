@@ -2,7 +2,8 @@
 
 use super::published;
 use super::random::Random;
-use crestulbino::{Version, Versions};
+use crate::library::INDEPENDENT;
+use crestulbino::{Kind, Refusal, Version, Versions};
 use independent::label::{GROUP_CLASSES, LABEL_BYTES};
 use independent::waveform::RECORD_BYTES;
 
@@ -156,7 +157,7 @@ impl LabelledFile {
 
     /// Writes all labels once more: some in version 2, and of the lengths in version 1 some with
     /// spaces in front. Most files come to have labels with and without.
-    fn relabelled(mut self, mix: Mix, random: &mut Random) -> LabelledFile {
+    pub fn relabelled(mut self, mix: Mix, random: &mut Random) -> LabelledFile {
         self.padded_percent = random.weighted(&[(20, 0), (30, 30), (35, 60), (15, 100)]);
         let labels = self.spots.len();
         let chosen = random.between(0, labels.saturating_sub(1));
@@ -166,6 +167,7 @@ impl LabelledFile {
                 Mix::All => true,
                 Mix::Half => random.chance(50),
                 Mix::Late => number >= chosen,
+                Mix::Last => number + 1 == labels,
                 Mix::Single => number == chosen,
                 Mix::Groups => spot.is_group,
                 Mix::Leaves => !spot.is_group,
@@ -210,6 +212,8 @@ pub enum Mix {
     Half,
     /// All from some label on.
     Late,
+    /// The last one alone.
+    Last,
     Single,
     Groups,
     Leaves,
@@ -570,6 +574,27 @@ pub fn with_rows(rows: usize, is_nested: bool, mix: Mix, random: &mut Random) ->
         forest(random, rows, 1, 0)
     };
     written(&objects).relabelled(mix, random)
+}
+
+/// What a labelled file is refused for.
+pub const FAULTS: [Refusal; 5] = [
+    Refusal::Short,
+    Refusal::BadLabel,
+    Refusal::BadLength,
+    Refusal::Overrun,
+    Refusal::Deep,
+];
+
+/// A file that is refused for this reason, told these versions.
+pub fn faulty(reason: Refusal, versions: Versions, random: &mut Random) -> LabelledFile {
+    loop {
+        let mut file = labelled(random);
+        damage(&mut file, random);
+        let checked = (INDEPENDENT.check)(Kind::Labelled(versions), &file.bytes);
+        if checked.is_err_and(|refused| refused.refusal == reason) {
+            return file;
+        }
+    }
 }
 
 /// A file with an entry of its index beyond 65,536.
@@ -1081,6 +1106,7 @@ pub fn waveform(random: &mut Random) -> Vec<u8> {
 #[cfg(test)]
 mod tests {
     use super::*;
+    use crate::library::taken;
     use independent::label;
     use independent::labelled::{check, leaves};
     use independent::refusal::Reason;
@@ -1089,14 +1115,6 @@ mod tests {
     fn told<T: Copy>(objects: Vec<T>, times: usize) -> impl Iterator<Item = (T, Versions)> {
         let choices = |object| [(object, Versions::One), (object, Versions::OneAndTwo)];
         objects.repeat(times).into_iter().flat_map(choices)
-    }
-
-    /// The choice in the words of the second implementation.
-    fn taken(versions: Versions) -> label::Versions {
-        match versions {
-            Versions::One => label::Versions::First,
-            Versions::OneAndTwo => label::Versions::Both,
-        }
     }
 
     const BOTH: label::Versions = label::Versions::Both;
@@ -1285,6 +1303,16 @@ mod tests {
             right += u32::from(file.old_index() == file.index());
         }
         assert!((200..800).contains(&right), "{right} of 1000");
+    }
+
+    #[test]
+    fn files_are_faulty_as_they_are_asked_for() {
+        let mut random = Random::new(52);
+        for (reason, versions) in told(FAULTS.to_vec(), 1) {
+            let file = faulty(reason, versions, &mut random);
+            let checked = (INDEPENDENT.check)(Kind::Labelled(versions), &file.bytes);
+            assert_eq!(checked.map_err(|refused| refused.refusal), Err(reason));
+        }
     }
 
     #[test]

@@ -1,12 +1,11 @@
 //! Kept indexes to ask about: their bytes, their kinds, their row counts and lists, the files that
 //! they are lent with, and the room for what is read or made of them.
 
-use super::files::{self, LabelledFile, Mix};
+use super::files::{self, LabelledFile, Mix, FAULTS};
 use super::random::Random;
 use super::{edges, CHOICES};
-use crate::library::INDEPENDENT;
 use crate::Case;
-use crestulbino::{Kind, Refusal, Versions};
+use crestulbino::{Refusal, Versions};
 
 /// The bytes of a record in front of its numbers: the length field and the kind.
 const FRONT: usize = 6;
@@ -339,14 +338,6 @@ enum File {
 /// Around the ends of groups of 16 rows.
 const ROWS: [usize; 8] = [0, 1, 15, 16, 17, 31, 32, 33];
 
-const FAULTS: [Refusal; 5] = [
-    Refusal::Short,
-    Refusal::BadLabel,
-    Refusal::BadLength,
-    Refusal::Overrun,
-    Refusal::Deep,
-];
-
 /// A call with what is lent to it: each part is a choice, not bytes.
 #[derive(Clone, Copy, Debug, PartialEq, Eq)]
 pub struct Asked {
@@ -409,7 +400,7 @@ impl Asked {
             File::Any => random.pick(&ROWS),
             File::Rows(rows) => rows,
             File::Large => return files::with_large_entry(mix, random),
-            File::Faulty(reason) => return faulty(reason, versions, random),
+            File::Faulty(reason) => return files::faulty(reason, versions, random),
         };
         loop {
             let is_nested = self.is_nested.unwrap_or_else(|| random.chance(50));
@@ -417,18 +408,6 @@ impl Asked {
             if self.list != List::Old || file.old_index() != file.index() {
                 return file;
             }
-        }
-    }
-}
-
-/// A file that is refused for this reason, told these versions.
-fn faulty(reason: Refusal, versions: Versions, random: &mut Random) -> LabelledFile {
-    loop {
-        let mut file = files::labelled(random);
-        files::damage(&mut file, random);
-        let checked = (INDEPENDENT.check)(Kind::Labelled(versions), &file.bytes);
-        if checked.is_err_and(|refused| refused.refusal == reason) {
-            return file;
         }
     }
 }
@@ -630,9 +609,16 @@ fn at_fault() -> Vec<Asked> {
     let of_file = |call| {
         let lists = [List::Right, List::Longer].into_iter();
         let faults = FAULTS.map(File::Faulty).into_iter();
+        let faulty = faults.flat_map(move |faulty| with(call, faulty, List::Right));
+        // Told each choice in turn; such a file has labels of any mix.
+        let faulty = faulty.zip(CHOICES.into_iter().cycle());
+        let faulty = faulty.map(|(asked, versions)| Asked {
+            told: Some((Mix::None, versions)),
+            ..asked
+        });
         lists
             .flat_map(move |list| with(call, good, list))
-            .chain(faults.flat_map(move |faulty| with(call, faulty, List::Right)))
+            .chain(faulty)
     };
     let with_file = FILE_CALLS.into_iter().flat_map(of_file);
     alone.chain(with_file).collect()
@@ -687,8 +673,9 @@ fn wide() -> Vec<Asked> {
 mod tests {
     use super::*;
     use crate::generator::Generator;
+    use crate::library::INDEPENDENT;
     use crate::{answer, Library};
-    use crestulbino::{Refused, Window};
+    use crestulbino::{Kind, Refused, Window};
     use std::collections::HashSet;
 
     const LIBRARY: Library = INDEPENDENT;
@@ -707,18 +694,6 @@ mod tests {
                 }
                 .case(&mut random);
                 assert!(answer(&LIBRARY, &case).starts_with("ok"), "{case}");
-            }
-        }
-    }
-
-    #[test]
-    fn files_are_faulty_as_they_are_asked_for() {
-        let mut random = Random::new(52);
-        for reason in FAULTS {
-            for versions in CHOICES {
-                let file = faulty(reason, versions, &mut random);
-                let checked = (LIBRARY.check)(Kind::Labelled(versions), &file.bytes);
-                assert_eq!(checked.map_err(|refused| refused.refusal), Err(reason));
             }
         }
     }

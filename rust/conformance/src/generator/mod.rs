@@ -7,6 +7,7 @@ pub mod files;
 pub mod kept;
 pub mod published;
 pub mod random;
+mod substitutes;
 
 use crate::Case;
 use crestulbino::{Kind, Version, Versions, Window};
@@ -32,6 +33,7 @@ pub struct Generator {
     binary_objects: Deck<(Option<CallAt>, LastObject)>,
     classed: Deck<Classed>,
     versioned: Deck<(Versioned, Versions)>,
+    substitutes: Deck<substitutes::Asked>,
     kept: Deck<kept::Asked>,
     head_harms: Deck<(usize, u8)>,
     written: Deck<Written>,
@@ -98,42 +100,44 @@ type Call = fn(&mut Generator) -> Case;
 
 /// How often each call is asked in a thousand lines. A deck that one of them deals from alone has
 /// no more than ten times as many cards.
-const CALLS: [(usize, Call); 40] = [
+const CALLS: [(usize, Call); 42] = [
     (26, Generator::read_spaces_and_digits),
     (3, Generator::read_binary_text),
     (9, Generator::read_binary_length),
     (37, Generator::read_harmed_label),
-    (5, Generator::read_cut_label),
+    (4, Generator::read_cut_label),
     (17, Generator::write_label),
     (13, Generator::write_harmed_head),
-    (6, Generator::write_any_head),
-    (26, Generator::check_labelled),
+    (5, Generator::write_any_head),
+    (20, Generator::check_labelled),
     (4, Generator::check_waveform),
-    (31, Generator::read_row_labelled),
-    (8, Generator::read_row_waveform),
-    (39, Generator::jump_labelled),
-    (8, Generator::jump_waveform),
-    (24, Generator::row_from_labelled),
-    (8, Generator::row_from_waveform),
-    (23, Generator::build_index),
-    (23, Generator::check_index),
-    (73, Generator::last_object),
-    (74, Generator::binary_object),
+    (23, Generator::read_row_labelled),
+    (7, Generator::read_row_waveform),
+    (31, Generator::jump_labelled),
+    (7, Generator::jump_waveform),
+    (19, Generator::row_from_labelled),
+    (7, Generator::row_from_waveform),
+    (8, Generator::substitute_row),
+    (29, Generator::substitute_edge),
+    (18, Generator::build_index),
+    (18, Generator::check_index),
+    (84, Generator::last_object),
+    (83, Generator::binary_object),
     (42, Generator::classed),
     (7, Generator::versioned),
-    (9, Generator::keep_index),
-    (15, Generator::kept_record),
+    (7, Generator::keep_index),
+    (11, Generator::kept_record),
     (42, Generator::kept_edge),
     (26, Generator::sample),
-    (10, Generator::vax_f),
-    (12, Generator::vax_d),
+    (8, Generator::vax_f),
+    (9, Generator::vax_d),
     (35, Generator::vax_d_rounded),
-    (13, Generator::opening),
+    (11, Generator::opening),
     (57, Generator::verdict_at_limit),
-    (6, Generator::verdict),
+    (5, Generator::verdict),
     (12, Generator::verdict_unknown),
     (24, Generator::burst_edge),
-    (8, |generator| bursts::row(&mut generator.random)),
+    (7, |generator| bursts::row(&mut generator.random)),
     (128, Generator::burst_field),
     (24, Generator::burst_limit),
     (24, Generator::burst_unknown),
@@ -151,8 +155,9 @@ const CHOICES: [Versions; 2] = [Versions::One, Versions::OneAndTwo];
 /// A call on a file, above all on the object at a place of it.
 type CallAt = fn(&mut Generator, LabelledFile, usize, Versions) -> Case;
 
-/// The calls that go through a labelled file; those that are lent a kept index with it are one of them.
-const CALLS_AT: [CallAt; 7] = [
+/// The calls that go through a labelled file; those that are lent a kept index with it are one of them. Of
+/// the two files of an original and its substitute, it is the one or the other.
+const CALLS_AT: [CallAt; 8] = [
     |_, file, _, versions| Case::CheckLabelled {
         file: file.bytes,
         versions,
@@ -160,6 +165,7 @@ const CALLS_AT: [CallAt; 7] = [
     Generator::read_row_at,
     Generator::jump_at,
     Generator::row_from_at,
+    Generator::substitute_at,
     Generator::build_index_at,
     Generator::check_index_at,
     |generator, file, _, versions| kept::of_file(file, versions, &mut generator.random),
@@ -197,6 +203,7 @@ impl Generator {
             binary_objects: Deck::new(binary_objects()),
             classed: Deck::new(files::classed()),
             versioned: Deck::new(told_each(&files::versioned())),
+            substitutes: Deck::new(substitutes::asked()),
             kept: Deck::new(kept::asked()),
             head_harms: Deck::new(odd_bytes(12)),
             written: Deck::new(written()),
@@ -549,6 +556,11 @@ impl Generator {
         }
     }
 
+    fn substitute_at(&mut self, file: LabelledFile, place: usize, versions: Versions) -> Case {
+        let (row, _) = self.row_at(&file, place);
+        substitutes::of_file(file, row, versions, &mut self.random)
+    }
+
     fn build_index_at(&mut self, file: LabelledFile, _: usize, versions: Versions) -> Case {
         let list = vec![7; file.index().len() + 1];
         Case::BuildIndex {
@@ -583,6 +595,15 @@ impl Generator {
             edges::window(&mut self.random, length)
         };
         (row, window)
+    }
+
+    fn substitute_row(&mut self) -> Case {
+        substitutes::any(&mut self.random)
+    }
+
+    fn substitute_edge(&mut self) -> Case {
+        let asked = self.substitutes.deal(&mut self.random);
+        asked.case(&mut self.random)
     }
 
     fn keep_index(&mut self) -> Case {
@@ -1065,7 +1086,7 @@ mod tests {
             ["row_from", told, ..] if told.starts_with("bursts:") => "row_from bursts".to_string(),
             [call @ ("row_from" | "write_label"), told, ..]
             | [call @ ("read_label" | "build_index" | "check_index"), .., told]
-            | [call @ ("convert_1_to_2" | "check_kept2"), .., told] => {
+            | [call @ ("substitute_row" | "convert_1_to_2" | "check_kept2"), .., told] => {
                 format!("{call} {told}")
             }
             [call, .., told] if call.ends_with("_labelled") => format!("{call} {told}"),
@@ -1116,6 +1137,7 @@ mod tests {
             assert!(generator.binary_objects.is_through());
             assert!(generator.classed.is_through());
             assert!(generator.versioned.is_through());
+            assert!(generator.substitutes.is_through());
             assert!(generator.kept.is_through());
             assert!(generator.head_harms.is_through());
             assert!(generator.written.is_through());
@@ -1149,7 +1171,7 @@ mod tests {
             };
             *seen.entry((call, kind)).or_default() += 1;
         }
-        let labelled: [(&str, &[&str]); 9] = [
+        let labelled: [(&str, &[&str]); 10] = [
             ("read_label ", &["ok", "1", "2", "3"]),
             ("check_labelled ", &["ok", "1", "2", "3", "4", "5"]),
             (
@@ -1161,6 +1183,7 @@ mod tests {
                 &["ok", "6", "11", "1", "2", "3", "4", "7"],
             ),
             ("row_from labelled", &["ok", "6", "1", "2", "3", "4"]),
+            ("substitute_row ", &["ok", "1", "2", "3", "4", "5", "6"]),
             ("build_index ", &["ok", "1", "2", "3", "4", "5", "8"]),
             ("check_index ", &["ok", "1", "2", "3", "4", "5", "11"]),
             (
@@ -1210,9 +1233,22 @@ mod tests {
         assert!(seen.keys().all(|(_, kind)| kind == "bad"), "{seen:?}");
     }
 
-    /// The labelled file of a case, and what the call is told of it.
-    fn labelled_file_of(case: Case) -> Option<(Vec<u8>, Versions)> {
+    /// The labelled files that the call of a case looks at, and what it is told of them. An original is
+    /// not looked at where its substitute serves.
+    fn labelled_files_of(case: Case) -> (Vec<Vec<u8>>, Versions) {
         match case {
+            Case::SubstituteRow {
+                original,
+                substitute,
+                row,
+                versions,
+            } => {
+                let served = (INDEPENDENT.substitute_row)(versions, &[], &substitute, row);
+                match served {
+                    Ok(_) => (vec![substitute], versions),
+                    Err(_) => (vec![substitute, original], versions),
+                }
+            }
             Case::CheckLabelled { file, versions }
             | Case::ReadRowLabelled { file, versions, .. }
             | Case::JumpLabelled { file, versions, .. }
@@ -1224,8 +1260,8 @@ mod tests {
                 kind: Kind::Labelled(versions),
                 file,
                 ..
-            } => Some((file, versions)),
-            _ => None,
+            } => (vec![file], versions),
+            _ => (Vec::new(), Versions::One),
         }
     }
 
@@ -1295,19 +1331,21 @@ mod tests {
         for seed in 0..3 {
             let (mut places, mut lengths) = (HashSet::new(), HashSet::new());
             for line in Generator::new(seed).take(10_000) {
-                let case = Case::parse(line.as_bytes());
-                let Some((file, versions)) = case.and_then(labelled_file_of) else {
+                let Some(case) = Case::parse(line.as_bytes()) else {
                     continue;
                 };
+                let (files, versions) = labelled_files_of(case);
                 let allows_2 = versions == Versions::OneAndTwo;
-                meet_labels(&file, (0, file.len()), 1, &mut |depth, label| {
-                    let is_two = label.version == label::Version::Two;
-                    places.insert((allows_2, is_two, depth.min(9), label.is_group()));
-                    if is_two {
-                        lengths.insert((allows_2, label.is_group(), label.length));
-                    }
-                    allows_2 || !is_two
-                });
+                for file in files {
+                    meet_labels(&file, (0, file.len()), 1, &mut |depth, label| {
+                        let is_two = label.version == label::Version::Two;
+                        places.insert((allows_2, is_two, depth.min(9), label.is_group()));
+                        if is_two {
+                            lengths.insert((allows_2, label.is_group(), label.length));
+                        }
+                        allows_2 || !is_two
+                    });
+                }
             }
             for (allows_2, is_group) in [(false, false), (false, true), (true, false), (true, true)]
             {

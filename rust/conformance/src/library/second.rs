@@ -155,7 +155,8 @@ fn mode_named(mode: bursts::Mode) -> Mode {
     }
 }
 
-fn taken(versions: Versions) -> label::Versions {
+/// The choice in the words of the second implementation.
+pub(crate) fn taken(versions: Versions) -> label::Versions {
     match versions {
         Versions::One => label::Versions::First,
         Versions::OneAndTwo => label::Versions::Both,
