@@ -102,7 +102,7 @@ fn cut(line: &str) -> String {
 #[cfg(test)]
 mod tests {
     use super::*;
-    use crate::library::{Answer, JumpLabelled, INDEPENDENT};
+    use crate::library::{Answer, JumpLabelled, SubstituteRow, INDEPENDENT};
     use crestulbino::{Beams, Field, Kind, Nesting, Refusal, Refused, Row, Versions, Window};
 
     fn compared_with(wrong: Library) -> Option<Difference> {
@@ -264,6 +264,33 @@ mod tests {
         })
         .unwrap();
         assert_eq!(found.case.to_string(), "row_from waveform - 10");
+    }
+
+    /// A row that is shown from the original where both files serve: both are made small.
+    #[test]
+    fn both_files_are_made_small() {
+        let substitute_row: SubstituteRow = |versions, original, substitute, row| {
+            let chosen = (INDEPENDENT.substitute_row)(versions, original, &[], row);
+            chosen.or_else(|_| (INDEPENDENT.substitute_row)(versions, original, substitute, row))
+        };
+        let found = compared_with(Library {
+            substitute_row,
+            ..INDEPENDENT
+        })
+        .unwrap();
+        let Case::SubstituteRow {
+            original,
+            substitute,
+            row,
+            versions,
+        } = &found.case
+        else {
+            panic!("{found}");
+        };
+        for file in [original, substitute] {
+            let rows = (INDEPENDENT.check)(Kind::Labelled(*versions), file);
+            assert_eq!((rows, *row), (Ok(1), 0), "{found}");
+        }
     }
 
     #[test]

@@ -188,10 +188,12 @@ enum Likeness {
     Longer,
     /// It has none in the one.
     OneEmpty,
+    /// It has none in the one, and ends that file.
+    EmptyEnd,
     BothEmpty,
 }
 
-const LIKENESSES: [Likeness; 10] = [
+const LIKENESSES: [Likeness; 11] = [
     Likeness::Same,
     Likeness::Labels,
     Likeness::Enclosed,
@@ -201,6 +203,7 @@ const LIKENESSES: [Likeness; 10] = [
     Likeness::AsLong,
     Likeness::Longer,
     Likeness::OneEmpty,
+    Likeness::EmptyEnd,
     Likeness::BothEmpty,
 ];
 
@@ -249,6 +252,17 @@ impl Likeness {
                 let rows = row + 1 + random.between(0, 3);
                 with_rows(rows, Mix::None, random)
             }
+            Likeness::EmptyEnd => {
+                let class = files::leaf_class(random);
+                let head = files::head(random, class);
+                let field = files::length_field(0, 0);
+                [
+                    &with_rows(row, Mix::None, random),
+                    &head[..],
+                    field.as_bytes(),
+                ]
+                .concat()
+            }
         }
     }
 
@@ -268,7 +282,7 @@ impl Likeness {
             Likeness::Flat => one.length > 0 && is_nested(one),
             Likeness::AsLong => one.length > 0 && one.length == other.length,
             Likeness::Longer => one.length > other.length && other.length > 0,
-            Likeness::OneEmpty => one.length > 0 && other.length == 0,
+            Likeness::OneEmpty | Likeness::EmptyEnd => one.length > 0 && other.length == 0,
             Likeness::BothEmpty => one.length == 0 && other.length == 0,
         }
     }
@@ -588,7 +602,6 @@ mod tests {
     use super::*;
     use crate::generator::Generator;
     use crate::Library;
-    use crestulbino::{Nesting, Window};
     use std::collections::HashSet;
 
     const LIBRARY: Library = INDEPENDENT;
@@ -717,77 +730,87 @@ mod tests {
             .collect()
     }
 
-    fn whole_row(lent: &Lent, of: Of) -> Option<(crestulbino::Row<'_>, Nesting)> {
-        let file = &lent.files[of as usize];
-        let length = row_of(lent.versions, file, lent.row)?.length as usize;
-        let kind = Kind::Labelled(lent.versions);
-        let row = (LIBRARY.read_row)(kind, file, lent.row, Window::new(0, length)).ok()?;
-        Some((row, row.address.nesting?))
+    /// A row of a file that serves.
+    struct Shown<'a> {
+        place: usize,
+        bytes: &'a [u8],
+        depth: u64,
+        outermost: usize,
+        /// Whether no byte follows it.
+        is_end: bool,
+        /// Whether no row of its file is in a group.
+        is_flat: bool,
     }
 
-    /// Whether all rows of a file are outermost objects.
-    fn is_flat(lent: &Lent, of: Of) -> bool {
+    fn shown(lent: &Lent, of: Of) -> Option<Shown<'_>> {
         let file = &lent.files[of as usize];
-        let mut leaves = labelled::leaves(taken(lent.versions), file)
-            .into_iter()
-            .flatten();
-        leaves.all(|leaf| {
-            let nesting = leaf.ok().and_then(|leaf| leaf.row.address.nesting);
-            nesting.is_some_and(|nesting| nesting.depth == 1)
+        let row = row_of(lent.versions, file, lent.row)?;
+        let (place, length) = (row.start as usize, row.length as usize);
+        let nesting = row.address.nesting?;
+        let others = (0..).map_while(|other| row_of(lent.versions, file, other));
+        let mut depths = others.filter_map(|other| other.address.nesting);
+        Some(Shown {
+            place,
+            bytes: &file[place..place + length],
+            depth: nesting.depth,
+            outermost: nesting.outermost as usize,
+            is_end: place + length == file.len(),
+            is_flat: depths.all(|nesting| nesting.depth == 1),
         })
     }
 
     /// What is seen of two rows where both files serve.
     fn seen_in_rows(lent: &Lent) -> Vec<String> {
-        let rows = FILES.map(|of| whole_row(lent, of));
-        let [Some((one, one_nesting)), Some((other, other_nesting))] = rows else {
+        let [Some(one), Some(other)] = FILES.map(|of| shown(lent, of)) else {
             return Vec::new();
         };
-        let mut seen = Vec::new();
-        let mut see = |is_seen: bool, words: &str| {
-            if is_seen {
-                seen.push(format!("{words}, told {:?}", lent.versions));
-            }
-        };
-        let same_bytes = one.bytes == other.bytes && !one.bytes.is_empty();
-        let same_address = one.place == other.place && one_nesting == other_nesting;
-        see(lent.files[0] == lent.files[1], "same files");
-        let no_byte_alike = one.bytes.iter().zip(other.bytes).all(|(a, b)| a != b);
-        let (length, other_length) = (one.bytes.len(), other.bytes.len());
-        let same_length = length == other_length && length > 0;
-        let no_byte_alike = same_length && no_byte_alike;
-        see(same_address && no_byte_alike, "other bytes alone");
-        see(same_length && !same_bytes, "as long");
-        see(length == 0 && other_length == 0, "both empty");
-        for (of, [length, other_length]) in [
-            (Of::Original, [length, other_length]),
-            (Of::Substitute, [other_length, length]),
-        ] {
-            see(
-                length > other_length && other_length > 0,
-                &format!("longer in {of:?}"),
-            );
-            see(length == 0 && other_length > 0, &format!("empty in {of:?}"));
+        let mut seen = both_in_words(&one, &other);
+        for (of, row, next) in [(FILES[0], &one, &other), (FILES[1], &other, &one)] {
+            let words = one_in_words(row, next).into_iter();
+            seen.extend(words.map(|words| format!("{words} in {of:?}")));
         }
-        for (of, [(row, nesting), (next, next_nesting)]) in [
-            (Of::Original, [(one, one_nesting), (other, other_nesting)]),
-            (Of::Substitute, [(other, other_nesting), (one, one_nesting)]),
-        ] {
-            let is_moved = same_bytes && row.place == next.place + LABEL;
-            let is_enclosed = is_moved && nesting.depth == next_nesting.depth + 1;
-            see(
-                is_enclosed && nesting.outermost == 0,
-                &format!("enclosed in {of:?}"),
-            );
-            let is_moved = is_moved && nesting.depth == next_nesting.depth;
-            see(
-                is_moved && nesting.outermost == next_nesting.outermost + LABEL,
-                &format!("moved in {of:?}"),
-            );
-            let is_flat = is_flat(lent, of) && next_nesting.depth > 1;
-            see(same_bytes && is_flat, &format!("flat in {of:?}"));
+        if lent.files[0] == lent.files[1] {
+            seen.push("same files".to_string());
         }
-        seen
+        let told = |words| format!("{words}, told {:?}", lent.versions);
+        seen.into_iter().map(told).collect()
+    }
+
+    /// The words that hold.
+    fn held(words: &[(bool, &str)]) -> Vec<String> {
+        let held = words.iter().filter(|(holds, _)| *holds);
+        held.map(|(_, words)| words.to_string()).collect()
+    }
+
+    fn both_in_words(one: &Shown, other: &Shown) -> Vec<String> {
+        let is_as_long = one.bytes.len() == other.bytes.len() && !one.bytes.is_empty();
+        let is_there =
+            (one.place, one.depth, one.outermost) == (other.place, other.depth, other.outermost);
+        let mut pairs = one.bytes.iter().zip(other.bytes);
+        let are_other = pairs.all(|(byte, other)| byte != other);
+        held(&[
+            (is_as_long && is_there && are_other, "other bytes alone"),
+            (is_as_long && one.bytes != other.bytes, "as long"),
+            (one.bytes.is_empty() && other.bytes.is_empty(), "both empty"),
+        ])
+    }
+
+    /// What is seen of one row beside the other.
+    fn one_in_words(row: &Shown, other: &Shown) -> Vec<String> {
+        let is_longer = row.bytes.len() > other.bytes.len() && !other.bytes.is_empty();
+        let is_empty = row.bytes.is_empty() && !other.bytes.is_empty();
+        let is_same = row.bytes == other.bytes && !row.bytes.is_empty();
+        let is_further = is_same && row.place == other.place + LABEL;
+        let is_deeper = row.depth == other.depth + 1 && row.outermost == 0;
+        let is_as_deep = row.depth == other.depth && row.outermost == other.outermost + LABEL;
+        held(&[
+            (is_longer, "longer"),
+            (is_empty, "empty"),
+            (is_empty && row.is_end, "empty at the end"),
+            (is_further && is_deeper, "enclosed"),
+            (is_further && is_as_deep, "moved"),
+            (is_same && row.is_flat && other.depth > 1, "flat"),
+        ])
     }
 
     /// What is seen of version 2 in both files: where it stands with regard to the row, and which of
@@ -857,6 +880,7 @@ mod tests {
                 for one in ["longer", "empty", "enclosed", "moved", "flat"] {
                     and(&format!("{one} in {of:?}"));
                 }
+                and(&format!("empty at the end in {of:?}"));
             }
             let has = |has| match has {
                 true => ["none", "in front", "behind"].map(|twos| (twos, has)),
