@@ -85,8 +85,12 @@ fn is_in_binary_length(file: &[u8], place: usize) -> bool {
     fronts.any(|front| matches!(front, b"NJPL2" | b"CCSD2"))
 }
 
-/// What a library says of a file: its rows, its index, each row read and jumped to, and the first
-/// row from each place, with every refusal and every place, but without the bytes themselves.
+/// A file of one row, in place of which another one is lent, or which is lent in its place.
+const OTHER: &[u8] = b"NJPL1I00DEMO00000003abc";
+
+/// What a library says of a file: its rows, its index, each row read, jumped to and shown beside another
+/// file, and the first row from each place, with every refusal and every place, but without the bytes
+/// themselves.
 fn all_answers(library: &Library, versions: Versions, file: &[u8], list: &[u32]) -> String {
     let kind = Kind::Labelled(versions);
     let mut built = [7; 8];
@@ -105,6 +109,11 @@ fn all_answers(library: &Library, versions: Versions, file: &[u8], list: &[u32])
         let jumped = (library.jump_labelled)(versions, file, list, row, window);
         let places = [read, jumped].map(|row| row.map(|row| row.place));
         answers += &format!(" {places:?}");
+        for (original, substitute) in [(file, OTHER), (OTHER, file)] {
+            let chosen = (library.substitute_row)(versions, original, substitute, row);
+            let chosen = chosen.map(|chosen| (chosen.source, chosen.row.place));
+            answers += &format!(" {chosen:?}");
+        }
     }
     for from in 0..=file.len().min(200) {
         let row = (library.row_from)(kind, file, from);

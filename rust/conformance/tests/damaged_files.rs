@@ -1,7 +1,7 @@
 //! Every single-byte damage of nested files with groups of all classes, with and without spaces in
 //! their lengths, with labels of version 1, of version 2 and of both: both implementations, told each
-//! choice, say the same of the check, of each row read, of the index, kept or not, of each jump and of
-//! going on from each label.
+//! choice, say the same of the check, of each row read, also beside another file, of the index, kept or
+//! not, of each jump and of going on from each label.
 
 use conformance::generator::kept::record;
 use conformance::library::{INDEPENDENT, PROVED};
@@ -32,6 +32,9 @@ fn two_entries_file() -> Vec<u8> {
     let file = [group('U', &rows(9)), second];
     file.concat().into_bytes()
 }
+
+/// A file of two rows, to stand in place of another one or to be replaced by it.
+const OTHER: &[u8] = b"NJPL1I00DEMO00000003abcNJPL1I00DEMO00000000";
 
 /// Where labels begin, in values too.
 fn labels(file: &[u8]) -> Vec<usize> {
@@ -99,6 +102,12 @@ fn assert_same(versions: Versions, file: &[u8], rows: usize, index: &[u32], plac
             (one.read_row)(kind, file, row, window),
             (other.read_row)(kind, file, row, window)
         );
+        for (original, substitute) in [(OTHER, file), (file, OTHER)] {
+            assert_eq!(
+                (one.substitute_row)(versions, original, substitute, row),
+                (other.substitute_row)(versions, original, substitute, row)
+            );
+        }
         for list in [index, own] {
             assert_eq!(
                 (one.jump_labelled)(versions, file, list, row, window),

@@ -7,7 +7,8 @@ use conformance::generator::kept::record;
 use conformance::library::{INDEPENDENT, PROVED};
 use conformance::Library;
 use crestulbino::{
-    Field, Kept2, Kind, Refusal, Refused, Row, Text, Verdict, Version, Versions, Window,
+    Chosen, Field, Kept2, Kind, Refusal, Refused, Row, Source, Text, Verdict, Version, Versions,
+    Window,
 };
 
 const BOTH: [Library; 2] = [INDEPENDENT, PROVED];
@@ -245,6 +246,79 @@ fn one_byte_more_than_a_file_may_have() {
             }
             let checked = (library.check_kept2)(versions, &file, &kept);
             assert_eq!(checked, refused(Refusal::TooBig));
+        }
+    }
+}
+
+/// Which file a row is shown from, and where it stands there, without its bytes.
+fn chosen(answer: Result<Chosen<'_>, Refused>) -> Result<(Source, usize, usize), Refused> {
+    answer.map(|chosen| (chosen.source, chosen.row.place, chosen.row.bytes.len()))
+}
+
+const SMALL: &[u8] = b"NJPL1I00DEMO00000003abc";
+
+/// A row at the end of the largest file, where the other file has it too, lacks it or is small.
+#[test]
+fn the_largest_originals_and_substitutes() {
+    let (most, less) = (labelled(MOST), labelled(LAST_LABEL));
+    let last = |source| Ok((source, LAST_LABEL + 20, LAST_LENGTH));
+    for (library, versions) in told() {
+        let row = |original, substitute, row| {
+            let answer = (library.substitute_row)(versions, original, substitute, row);
+            chosen(answer)
+        };
+        for original in [&most[..], &less, SMALL, &[]] {
+            assert_eq!(row(original, &most, 42), last(Source::Substitute));
+        }
+        for substitute in [&less[..], SMALL, &[]] {
+            assert_eq!(row(&most, substitute, 42), last(Source::Original));
+        }
+        for number in [43, 42 + (1 << 32), usize::MAX] {
+            assert_eq!(row(&most, &less, number), refused(Refusal::NoRow));
+            assert_eq!(row(&most, &most, number), refused(Refusal::NoRow));
+        }
+    }
+    let in_version_2 = one_row(MOST, 1);
+    for library in BOTH {
+        let row = |versions, original, substitute| {
+            let answer = (library.substitute_row)(versions, original, substitute, 0);
+            chosen(answer)
+        };
+        let shown = Ok((Source::Substitute, 40, MOST - 40));
+        assert_eq!(row(Versions::OneAndTwo, SMALL, &in_version_2), shown);
+        let shown = Ok((Source::Original, 20, 3));
+        assert_eq!(row(Versions::One, SMALL, &in_version_2), shown);
+        let refused = refused(Refusal::BadLabel);
+        assert_eq!(row(Versions::One, &in_version_2, &[]), refused);
+    }
+}
+
+/// A file that is too big does not serve, whatever stands in it. It is refused as the original only, and
+/// where the substitute does not serve.
+#[test]
+fn one_byte_more_than_an_original_or_a_substitute_may_have() {
+    let (rows, zeros) = (labelled(MOST + 1), vec![0; MOST + 1]);
+    let faulty = &b"NJPL1I00DEMO00000004abc"[..];
+    for (library, versions) in told() {
+        let row = |original, substitute, row| {
+            let answer = (library.substitute_row)(versions, original, substitute, row);
+            chosen(answer)
+        };
+        for big in [&rows, &zeros] {
+            assert_eq!(row(big, SMALL, 0), Ok((Source::Substitute, 20, 3)));
+            assert_eq!(row(SMALL, big, 0), Ok((Source::Original, 20, 3)));
+            for number in [1, 42, usize::MAX] {
+                assert_eq!(row(big, SMALL, number), refused(Refusal::TooBig));
+                assert_eq!(row(SMALL, big, number), refused(Refusal::NoRow));
+            }
+            for number in [0, 1, 42, usize::MAX] {
+                for substitute in [&rows[..], &zeros, faulty, &[]] {
+                    let refused = refused(Refusal::TooBig);
+                    assert_eq!(row(big, substitute, number), refused);
+                }
+                assert_eq!(row(faulty, big, number), refused(Refusal::Overrun));
+                assert_eq!(row(&[], big, number), refused(Refusal::NoRow));
+            }
         }
     }
 }

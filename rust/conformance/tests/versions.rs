@@ -182,7 +182,8 @@ fn all_answers(library: &Library, versions: Versions, file: &[u8], list: &[u32])
         let window = Window::new(0, row % 3);
         let read = (library.read_row)(kind, file, row, window);
         let jumped = (library.jump_labelled)(versions, file, list, row, window);
-        answers.extend([read, jumped].map(|row| answer(row.map(|row| row.place))));
+        let shown = (library.substitute_row)(versions, file, &[], row).map(|chosen| chosen.row);
+        answers.extend([read, jumped, shown].map(|row| answer(row.map(|row| row.place))));
     }
     for from in 0..=file.len().min(200) {
         let row = (library.row_from)(kind, file, from);
