@@ -88,3 +88,11 @@ fn stored_answers_of_kept_indexes_of_kind_2() {
         include_str!("data/kept2.answers"),
     );
 }
+
+#[test]
+fn stored_answers_of_originals_and_substitutes() {
+    same(
+        include_str!("data/substitute.cases"),
+        include_str!("data/substitute.answers"),
+    );
+}
