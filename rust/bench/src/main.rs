@@ -5,7 +5,7 @@ mod inputs;
 mod plain;
 
 use crestulbino::{
-    Beams, Field, Kind, Row, Verdict, Versions, Window, KEPT2_FRONT_BYTES, KEPT_FRONT_BYTES,
+    Beams, Field, Kind, Row, Source, Verdict, Versions, Window, KEPT2_FRONT_BYTES, KEPT_FRONT_BYTES,
 };
 use inputs::{
     Numbers, BINARY, BURST_ROWS, BURST_START, DIGITS, ROWS, SPACES_AND_DIGITS, WAVEFORM_ROWS,
@@ -87,6 +87,7 @@ fn labelled_calls(of: &str, versions: Versions, file: &[u8], rows: &[usize]) {
         versions,
         file,
     );
+    substitutes(of, versions, file);
     let (mut one, mut other) = (vec![1; ROWS], vec![1; ROWS]);
     compare(
         &format!("build_index{of}, a row"),
@@ -273,6 +274,50 @@ fn read_labelled(name: &str, versions: Versions, file: &[u8]) {
             plain::read_row_labelled(file, version_2, row, 0, 0).map_or(0, plainly_told)
         },
     );
+}
+
+/// A row in the middle of a substitute that serves; the last row of an original whose substitute ends
+/// in front of it; and a row in the middle of an original whose substitute ends in a byte too many.
+fn substitutes(of: &str, versions: Versions, file: &[u8]) {
+    let version_2 = version_2(versions);
+    let last = crestulbino::read_row(Kind::Labelled(versions), file, ROWS - 1, EMPTY);
+    let nesting = last.ok().and_then(|row| row.address.nesting);
+    let shorter = nesting.expect("a last row").outermost;
+    for (how, substitute, row, units) in [
+        (", a row", file.to_vec(), ROWS / 2, ROWS),
+        (
+            ", row not in the substitute, a row of both",
+            file[..shorter].to_vec(),
+            ROWS - 1,
+            2 * ROWS,
+        ),
+        (
+            ", fault at the substitute's end, a row of both",
+            [file, b"x"].concat(),
+            ROWS / 2,
+            2 * ROWS,
+        ),
+    ] {
+        compare(
+            &format!("substitute_row{of}{how}"),
+            units,
+            || {
+                let row = black_box(row);
+                let chosen = crestulbino::substitute_row(versions, file, &substitute, row);
+                chosen.map_or(0, |chosen| {
+                    let is_substitute = chosen.source == Source::Substitute;
+                    usize::from(is_substitute) + chosen.row.bytes.len() + told(chosen.row)
+                })
+            },
+            || {
+                let row = black_box(row);
+                let chosen = plain::substitute_row(file, &substitute, version_2, row);
+                chosen.map_or(0, |(is_substitute, row)| {
+                    usize::from(is_substitute) + row.bytes.len() + plainly_told(row)
+                })
+            },
+        );
+    }
 }
 
 fn check_labelled(name: &str, versions: Versions, file: &[u8]) {

@@ -447,6 +447,12 @@ pub fn read_row_labelled(
     first: usize,
     count: usize,
 ) -> Shown<'_> {
+    window(file, row_of(file, version_2, row)?, first, count)
+}
+
+/// Finds a row of a labelled file in one pass, which goes on to the file's end.
+#[inline(always)]
+fn row_of(file: &[u8], version_2: bool, row: usize) -> Result<Leaf, Fault> {
     let mut rows = 0;
     let mut wanted = None;
     pass(file, version_2, |leaf| {
@@ -455,7 +461,24 @@ pub fn read_row_labelled(
         }
         rows += 1;
     })?;
-    window(file, wanted.ok_or((6, 0))?, first, count)
+    wanted.ok_or((6, 0))
+}
+
+/// Gives a whole row of the substitute, or else of the original, and says whether it is the
+/// substitute's. A file that is looked at is passed once.
+#[inline(never)]
+pub fn substitute_row<'a>(
+    original: &'a [u8],
+    substitute: &'a [u8],
+    version_2: bool,
+    row: usize,
+) -> Result<(bool, Row<'a>), Fault> {
+    let (is_substitute, file, leaf) = match row_of(substitute, version_2, row) {
+        Ok(leaf) => (true, substitute, leaf),
+        Err(_) => (false, original, row_of(original, version_2, row)?),
+    };
+    let row = window(file, leaf, 0, leaf.length)?;
+    Ok((is_substitute, row))
 }
 
 /// Reads a window of a row of a labelled file by its index.
