@@ -105,39 +105,39 @@ const CALLS: [(usize, Call); 42] = [
     (3, Generator::read_binary_text),
     (9, Generator::read_binary_length),
     (37, Generator::read_harmed_label),
-    (4, Generator::read_cut_label),
+    (5, Generator::read_cut_label),
     (17, Generator::write_label),
     (13, Generator::write_harmed_head),
     (5, Generator::write_any_head),
-    (20, Generator::check_labelled),
+    (22, Generator::check_labelled),
     (4, Generator::check_waveform),
-    (23, Generator::read_row_labelled),
+    (25, Generator::read_row_labelled),
     (7, Generator::read_row_waveform),
-    (31, Generator::jump_labelled),
+    (33, Generator::jump_labelled),
     (7, Generator::jump_waveform),
-    (19, Generator::row_from_labelled),
+    (21, Generator::row_from_labelled),
     (7, Generator::row_from_waveform),
-    (8, Generator::substitute_row),
+    (6, Generator::substitute_row),
     (29, Generator::substitute_edge),
-    (18, Generator::build_index),
-    (18, Generator::check_index),
-    (84, Generator::last_object),
-    (83, Generator::binary_object),
+    (21, Generator::build_index),
+    (21, Generator::check_index),
+    (73, Generator::last_object),
+    (74, Generator::binary_object),
     (42, Generator::classed),
     (7, Generator::versioned),
     (7, Generator::keep_index),
-    (11, Generator::kept_record),
+    (13, Generator::kept_record),
     (42, Generator::kept_edge),
     (26, Generator::sample),
-    (8, Generator::vax_f),
-    (9, Generator::vax_d),
+    (9, Generator::vax_f),
+    (12, Generator::vax_d),
     (35, Generator::vax_d_rounded),
     (11, Generator::opening),
     (57, Generator::verdict_at_limit),
     (5, Generator::verdict),
     (12, Generator::verdict_unknown),
     (24, Generator::burst_edge),
-    (7, |generator| bursts::row(&mut generator.random)),
+    (8, |generator| bursts::row(&mut generator.random)),
     (128, Generator::burst_field),
     (24, Generator::burst_limit),
     (24, Generator::burst_unknown),
@@ -155,9 +155,9 @@ const CHOICES: [Versions; 2] = [Versions::One, Versions::OneAndTwo];
 /// A call on a file, above all on the object at a place of it.
 type CallAt = fn(&mut Generator, LabelledFile, usize, Versions) -> Case;
 
-/// The calls that go through a labelled file; those that are lent a kept index with it are one of them. Of
-/// the two files of an original and its substitute, it is the one or the other.
-const CALLS_AT: [CallAt; 8] = [
+/// The calls that go through a labelled file; those that are lent a kept index or another file with it are
+/// one of them.
+const CALLS_AT: [CallAt; 7] = [
     |_, file, _, versions| Case::CheckLabelled {
         file: file.bytes,
         versions,
@@ -165,10 +165,9 @@ const CALLS_AT: [CallAt; 8] = [
     Generator::read_row_at,
     Generator::jump_at,
     Generator::row_from_at,
-    Generator::substitute_at,
     Generator::build_index_at,
     Generator::check_index_at,
-    |generator, file, _, versions| kept::of_file(file, versions, &mut generator.random),
+    Generator::with_another_at,
 ];
 
 /// Calls with short lines, to be spoilt. They take no card from a deck whose
@@ -556,11 +555,6 @@ impl Generator {
         }
     }
 
-    fn substitute_at(&mut self, file: LabelledFile, place: usize, versions: Versions) -> Case {
-        let (row, _) = self.row_at(&file, place);
-        substitutes::of_file(file, row, versions, &mut self.random)
-    }
-
     fn build_index_at(&mut self, file: LabelledFile, _: usize, versions: Versions) -> Case {
         let list = vec![7; file.index().len() + 1];
         Case::BuildIndex {
@@ -581,6 +575,15 @@ impl Generator {
             list,
             versions,
         }
+    }
+
+    /// With its kept index, as an original, or as a substitute.
+    fn with_another_at(&mut self, file: LabelledFile, place: usize, versions: Versions) -> Case {
+        if self.random.chance(60) {
+            return kept::of_file(file, versions, &mut self.random);
+        }
+        let (row, _) = self.row_at(&file, place);
+        substitutes::of_file(file, row, versions, &mut self.random)
     }
 
     /// The first row from a place on, at times the next one, and a window that mostly fits it.

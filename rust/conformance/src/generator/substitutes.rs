@@ -6,7 +6,7 @@ use super::random::Random;
 use super::{edges, CHOICES};
 use crate::library::{taken, INDEPENDENT};
 use crate::Case;
-use crestulbino::{Kind, Refusal, Versions};
+use crestulbino::{Kind, Refusal, Source, Versions};
 use independent::labelled;
 use independent::window::Row;
 
@@ -98,13 +98,6 @@ fn rows_in_front(versions: Versions, file: &[u8]) -> usize {
     leaves.take_while(Result::is_ok).count()
 }
 
-/// One of the two files.
-#[derive(Clone, Copy, Debug, PartialEq, Eq, Hash)]
-enum Of {
-    Original,
-    Substitute,
-}
-
 /// How many rows the substitute has, beside the original.
 #[derive(Clone, Copy, Debug, PartialEq, Eq, Hash)]
 enum Size {
@@ -119,23 +112,23 @@ const SIZES: [Size; 3] = [Size::Fewer, Size::AsMany, Size::More];
 #[derive(Clone, Copy, Debug, PartialEq, Eq, Hash)]
 enum Number {
     First,
-    Last(Of),
-    Behind(Of),
+    Last(Source),
+    Behind(Source),
     /// One more than that of the first row that neither has.
     Beyond,
     /// The last one, if the rows of the original were counted on behind those of the substitute.
     LastOfSum,
-    /// So much more than that of a row that both have, for which narrow numbers take it.
+    /// So much more than that of a row that both have. Narrow numbers do not tell the two apart.
     Turned(usize),
     Is(usize),
 }
 
 const NUMBERS: [Number; 15] = [
     Number::First,
-    Number::Last(Of::Original),
-    Number::Last(Of::Substitute),
-    Number::Behind(Of::Original),
-    Number::Behind(Of::Substitute),
+    Number::Last(Source::Original),
+    Number::Last(Source::Substitute),
+    Number::Behind(Source::Original),
+    Number::Behind(Source::Substitute),
     Number::Beyond,
     Number::LastOfSum,
     Number::Turned(1 << 8),
@@ -152,8 +145,8 @@ impl Number {
     /// The number, for an original and a substitute of so many rows each.
     fn of(self, original: usize, substitute: usize, random: &mut Random) -> usize {
         let rows = |of| match of {
-            Of::Original => original,
-            Of::Substitute => substitute,
+            Source::Original => original,
+            Source::Substitute => substitute,
         };
         match self {
             Number::First => 0,
@@ -220,13 +213,13 @@ impl Likeness {
             let file = files::with_rows(rows, true, mix, random);
             let other = self.beside(&file, row, random);
             let rows = [&file.bytes, &other].map(|file| row_of(versions, file, row));
-            if self.is_told(versions, rows) {
+            if self.holds(versions, rows) {
                 return (file.bytes, other, row);
             }
         }
     }
 
-    /// The other file. Of a file of its own, it may turn out not to be alike in this way.
+    /// The other file. One of its own may turn out not to be alike in this way.
     fn beside(self, file: &LabelledFile, row: usize, random: &mut Random) -> Vec<u8> {
         let leaf = |spot: &files::Spot| spot.place..spot.place + LABEL + spot.length;
         match self {
@@ -268,7 +261,7 @@ impl Likeness {
 
     /// Whether the rows are alike in this way, and so that it shows. Only a version that is not
     /// allowed may keep the other file from having one.
-    fn is_told(self, versions: Versions, rows: [Option<Row>; 2]) -> bool {
+    fn holds(self, versions: Versions, rows: [Option<Row>; 2]) -> bool {
         let [Some(one), other] = rows else {
             return false;
         };
@@ -525,15 +518,14 @@ impl Wide {
     fn case(self, random: &mut Random) -> Case {
         let versions = random.pick(&CHOICES);
         let mix = Mix::allowed(versions, random);
-        let mut large = files::with_large_entry(mix, random).bytes;
-        // The first row of the second group of 16, which stands beyond 65,536.
-        let row = 16;
+        let mut large = files::with_large_entry(mix, random);
+        let row = large.leaves().len() - 1;
         let (original, substitute) = match self {
-            Wide::RowOfOriginal => (large, State::Lacks.file(row, versions, random)),
-            Wide::RowOfSubstitute => (State::Has.file(row, versions, random), large),
+            Wide::RowOfOriginal => (large.bytes, State::Lacks.file(row, versions, random)),
+            Wide::RowOfSubstitute => (State::Has.file(row, versions, random), large.bytes),
             Wide::FaultOfOriginal => {
-                large.push(b'^');
-                (large, State::Lacks.file(row, versions, random))
+                large.bytes.push(b'^');
+                (large.bytes, State::Lacks.file(row, versions, random))
             }
         };
         Case::SubstituteRow {
@@ -613,7 +605,7 @@ mod tests {
         versions: Versions,
     }
 
-    const FILES: [Of; 2] = [Of::Original, Of::Substitute];
+    const FILES: [Source; 2] = [Source::Original, Source::Substitute];
 
     fn lent_in(case: Case) -> Option<Lent> {
         match case {
@@ -742,7 +734,7 @@ mod tests {
         is_flat: bool,
     }
 
-    fn shown(lent: &Lent, of: Of) -> Option<Shown<'_>> {
+    fn shown(lent: &Lent, of: Source) -> Option<Shown<'_>> {
         let file = &lent.files[of as usize];
         let row = row_of(lent.versions, file, lent.row)?;
         let (place, length) = (row.start as usize, row.length as usize);
@@ -831,6 +823,17 @@ mod tests {
         Some(format!("{}; {}; told {:?}", one?, other?, lent.versions))
     }
 
+    /// What is shown or refused at a place of more than 16 bits.
+    fn seen_in_places(lent: &Lent) -> Option<String> {
+        let [original, substitute] = &lent.files;
+        let answer = (LIBRARY.substitute_row)(lent.versions, original, substitute, lent.row);
+        let (what, place) = match answer {
+            Ok(chosen) => (format!("{:?}", chosen.source), chosen.row.place),
+            Err(refused) => ("refused".to_string(), refused.place),
+        };
+        (place > 65_536).then(|| format!("{what} beyond 65,536"))
+    }
+
     /// What has to be seen.
     fn expected() -> Vec<String> {
         let accepted = ["has", "lacks", "no rows", "empty"];
@@ -841,7 +844,8 @@ mod tests {
             .into_iter()
             .chain(faults.concat())
             .collect();
-        let mut words = Vec::new();
+        let places = ["Original", "Substitute", "refused"];
+        let mut words = places.map(|what| format!("{what} beyond 65,536")).to_vec();
         for state in &states {
             for original in accepted.into_iter().chain(names) {
                 words.push(format!("{original}, {state}"));
@@ -910,6 +914,7 @@ mod tests {
                 seen.extend(seen_in_numbers(&lent));
                 seen.extend(seen_in_rows(&lent));
                 seen.extend(seen_in_versions(&lent));
+                seen.extend(seen_in_places(&lent));
             }
             for words in expected() {
                 assert!(seen.contains(&words), "{words}");
