@@ -41,6 +41,7 @@ fn case_1_the_empty_file() {
     told("build_index - -", "ok 0 0 -");
     told("check_index - -", "ok");
     told("jump_labelled - - 0 0 0", "ref 6 0");
+    told("substitute_row - - 0", "ref 6 0");
 }
 
 #[test]
@@ -48,6 +49,8 @@ fn case_2_nineteen_zero_bytes() {
     let file = hex([0; 19]);
     told(&format!("check_labelled {file}"), "ref 1 0");
     told(&format!("read_row_labelled {file} 0 0 0"), "ref 1 0");
+    told(&format!("substitute_row {file} - 0"), "ref 1 0");
+    told(&format!("substitute_row - {file} 0"), "ref 6 0");
 }
 
 #[test]
@@ -66,6 +69,14 @@ fn case_3_the_demonstration_file() {
     told(
         &format!("jump_labelled {file} 20 1 0 0"),
         "ok 63 - 43 absent absent",
+    );
+    told(
+        &format!("substitute_row - {file} 0"),
+        "ok substitute 40 616263 20 2 0",
+    );
+    told(
+        &format!("substitute_row {file} - 1"),
+        "ok original 63 - 43 2 0",
     );
     told(&format!("build_index {file} 7,8"), "ok 1 2 20,8");
     told(&format!("check_index {file} 20"), "ok");
