@@ -312,8 +312,8 @@ crest_result crest_row_from_bursts(const uint8_t *file, size_t file_len, uint64_
 /* ---- A labelled file and its substitute ---- */
 
 /*
- * substitute::read_row. Gives a whole row of the substitute, if crest_check_labelled accepts that file and it has the row; the
- * original is then not looked at. Else it gives the whole row of the original. version_2 holds for both files.
+ * substitute::read_row of two labelled files. Gives a whole row of the substitute, if crest_check_labelled accepts that file and it
+ * has the row; the original is then not looked at. Else it gives the whole row of the original. version_2 holds for both files.
  * Refuses: only where neither file serves, and then for the original alone: as crest_check_labelled; then NOROW.
  * Writes: source, one of enum crest_source; shown, whose places are those in that file, of which bytes is the row's length and
  * nesting is known.

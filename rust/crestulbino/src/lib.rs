@@ -30,7 +30,8 @@
 //! A row carries its [`Address`], to be looked up in a hex viewer: where its label stands, and, where it
 //! was read from the first byte, how it is nested.
 //!
-//! A labelled file may have a substitute. A row is shown from that one where it can be, and says so.
+//! A labelled file may have a substitute. A row is shown from that file if it is accepted and has the
+//! row, else from the original, and the answer says which.
 //!
 //! ```
 //! use crestulbino::{substitute_row, Source, Versions};
