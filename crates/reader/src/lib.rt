@@ -42,7 +42,7 @@ pub fn check(kind: Kind, file: &[u8]) -> Count
 }
 
 // Row `k`, whole, found from the first byte.
-pub fn find_row(kind: Kind, file: &[u8], k: usize) -> Show
+fn find_row(kind: Kind, file: &[u8], k: usize) -> Show
     ensures { λ r. ⌜ shown r ≡ findRow kind (now (file .entry)) k ⌝ }
 {
     match kind {
@@ -80,6 +80,13 @@ pub fn read_row(kind: Kind, file: &[u8], k: usize, a: usize, c: usize) -> Show
     ensures { λ r. ⌜ shown r ≡ readRow kind (now (file .entry)) k a c ⌝ }
 {
     window_in(find_row(kind, file, k), a, c)
+}
+
+// Row `k` of a labelled file, whole, found from the first byte.
+pub fn find_labelled(versions: Versions, file: &[u8], k: usize) -> Show
+    ensures { λ r. ⌜ shown r ≡ findRow (Kind.Labelled versions) (now (file .entry)) k ⌝ }
+{
+    labelled::find_row(versions, file, k)
 }
 
 // The window of row `k` of a labelled file, jumped to by the list. The row's depth is absent.
