@@ -5,6 +5,7 @@
 // numbers: place, count, its label's place, 1 or 0 for whether its depth is known, its depth, its
 // outermost object's place. What is answered is left to the crates below; the C declarations, and what
 // a C caller owes, are left to the header.
+use answer::Show;
 use burst_codes::Compression;
 use burst_codes::Enabled;
 use hand::Numbered;
@@ -17,6 +18,8 @@ use orbit::Open;
 use reader::Kind;
 use row_index::Build;
 use row_index::Verified;
+use substitute::Choice;
+use substitute::Source;
 ghost use mathlib.Core.Path.{_≡_};
 ghost use mathlib.Core.List.{[]};
 ghost use lib.ListN.{length as size};
@@ -26,6 +29,7 @@ ghost use Rattle.label.specs.Version.{versionNumber};
 ghost use Rattle.label.specs.Label.{readLabel};
 ghost use Rattle.reader.specs.Rows.{checkFile};
 ghost use Rattle.reader.specs.Read.{readRow, jumpRow, rowFrom};
+ghost use Rattle.substitute.specs.Chosen.{sourceNumber};
 ghost use Rattle.substitute.specs.Substitute.{readEither};
 ghost use Rattle.row_index.specs.Index.{indexOf, builtOf, buildIndex, accepted, checkIndex};
 ghost use Rattle.kept.specs.Kept.{keepIndex, loadKept};
@@ -39,7 +43,7 @@ ghost use Rattle.burst_fields.specs.Fields.{fieldOf, fieldVerdict};
 ghost use Rattle.burst_codes.specs.Beams.{verdictIn, beamsOf};
 ghost use Rattle.burst_codes.specs.Modes.{numbered};
 ghost use Rattle.hand.specs.Handed.{resultOf, handed};
-ghost use Rattle.hand.specs.Parts.{fourBytes, rowNumbers, sourceNumber, sideNumber, inNumbers, beamsHanded, modeHanded};
+ghost use Rattle.hand.specs.Parts.{fourBytes, rowNumbers, sideNumber, inNumbers, beamsHanded, modeHanded};
 ghost use Rattle.hand.specs.Numbers.{choiceOf, writeNumbered};
 
 // The label at the front of the bytes.
@@ -289,6 +293,16 @@ pub extern "C" fn crest_row_from_bursts(
     hand::row(bursts::row_from(file, start, from), shown)
 }
 
+// The number of a source.
+fn source_number(source: Source) -> usize
+    ensures { λ r. ⌜ r ≡ sourceNumber source ⌝ }
+{
+    match source {
+        Source::Original => 0,
+        Source::Substitute => 1,
+    }
+}
+
 // A row of a labelled file, whole, from its substitute where that has it, else from the original; and
 // which of the two it came from: 0 the original, 1 the substitute.
 #[no_mangle]
@@ -304,11 +318,15 @@ pub extern "C" fn crest_substitute_row(
     ensures { λ _. ⌜ now (source .exit) ≡ handed (λ c. sourceNumber (c .source)) (readEither (choiceOf version_2) (now (original .entry)) (now (substitute .entry)) row) (now (source .entry)) ⌝ }
     ensures { λ _. ⌜ now (shown .exit) ≡ handed (λ c. rowNumbers (now (shown .entry)) (c .row)) (readEither (choiceOf version_2) (now (original .entry)) (now (substitute .entry)) row) (now (shown .entry)) ⌝ }
 {
-    hand::chosen(
-        substitute::read_row(hand::choice(version_2), original, substitute, row),
-        source,
-        shown,
-    )
+    match substitute::read_row(hand::choice(version_2), original, substitute, row) {
+        Choice::Is(found) => {
+            let from = found.source;
+            *source = source_number(from);
+            let whole = found.row;
+            hand::row(Show::Is(whole), shown)
+        }
+        Choice::Refused(why, place) => hand::refused(why, place),
+    }
 }
 
 // Writes the index of a labelled file to the front of the list.

@@ -9,8 +9,6 @@ use Rattle.answer.specs.Refusal.{numberOf}
 use Rattle.answer.specs.declared.Nesting.{Nesting}
 use Rattle.answer.specs.declared.Nesting.the-variants.{Known, Absent}
 use Rattle.answer.specs.declared.Shown.{Shown}
-use Rattle.substitute.specs.declared.Source.{Source}
-use Rattle.substitute.specs.declared.Source.the-variants.{Original, Substitute}
 use Rattle.verdicts.specs.Verdict.{Side, below, inside, above}
 use Rattle.burst_fields.specs.Fields as field
 use Rattle.burst_codes.specs.Beams as mask
@@ -47,11 +45,6 @@ rowNumbers old s =
     ∷ depthHanded (s .address .nesting) (getD old 4 0)
     ∷ outermostHanded (s .address .nesting) (getD old 5 0)
     ∷ []
-
--- which of two files, as a number
-abbrev pub sourceNumber : Source → ℕ
-sourceNumber Original = 0
-sourceNumber Substitute = 1
 
 -- a verdict as a number
 abbrev pub sideNumber : Side → ℕ

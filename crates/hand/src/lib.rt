@@ -9,8 +9,6 @@ use answer::Show;
 use burst_fields::Value;
 use label::Version;
 use label::Versions;
-use substitute::Choice;
-use substitute::Source;
 use vax::Decode;
 use verdicts::Judgement;
 ghost use mathlib.Core.Path.{_≡_};
@@ -22,8 +20,7 @@ ghost use Rattle.answer.specs.Outcome.{mapped};
 ghost use Rattle.vax.specs.Decoded.{decoded};
 ghost use Rattle.burst_fields.specs.Fields.{valued};
 ghost use Rattle.verdicts.specs.Judged.{judged};
-ghost use Rattle.substitute.specs.Chosen.{chosen as chosenBy};
-ghost use Rattle.hand.specs.Parts.{rowNumbers, sourceNumber, sideNumber, bitsOf, inNumbers, told};
+ghost use Rattle.hand.specs.Parts.{rowNumbers, sideNumber, bitsOf, inNumbers, told};
 ghost use Rattle.hand.specs.Handed.{refusedAs, resultOf, handed};
 ghost use Rattle.hand.specs.Numbers.{choiceOf, numberedVersion, versionRead};
 
@@ -129,33 +126,6 @@ pub fn row(answer: Show, numbers: &mut [usize; 6]) -> Result
             }
         }
         Show::Refused(why, place) => refused(why, place),
-    }
-}
-
-// Which of two files: 0 the original, 1 the substitute.
-fn source_number(source: Source) -> usize
-    ensures { λ r. ⌜ r ≡ sourceNumber source ⌝ }
-{
-    match source {
-        Source::Original => 0,
-        Source::Substitute => 1,
-    }
-}
-
-// A row that was chosen: the number of the file that it came from, and the row in six numbers.
-pub fn chosen(answer: Choice, source: &mut usize, numbers: &mut [usize; 6]) -> Result
-    ensures { λ r. ⌜ r ≡ resultOf (chosenBy answer) ⌝ }
-    ensures { λ _. ⌜ now (source .exit) ≡ handed (λ c. sourceNumber (c .source)) (chosenBy answer) (now (source .entry)) ⌝ }
-    ensures { λ _. ⌜ now (numbers .exit) ≡ handed (λ c. rowNumbers (now (numbers .entry)) (c .row)) (chosenBy answer) (now (numbers .entry)) ⌝ }
-{
-    match answer {
-        Choice::Is(found) => {
-            let from = found.source;
-            *source = source_number(from);
-            let shown = found.row;
-            row(Show::Is(shown), numbers)
-        }
-        Choice::Refused(why, place) => refused(why, place),
     }
 }
 

@@ -10,6 +10,11 @@ use Rattle.substitute.specs.declared.Chosen.{Chosen}
 use Rattle.substitute.specs.declared.Choice.{Choice}
 use Rattle.substitute.specs.declared.Choice.the-variants.{Is, Refused}
 
+-- the number of each at the C boundary
+abbrev pub sourceNumber : Source → ℕ
+sourceNumber Original = 0
+sourceNumber Substitute = 1
+
 -- the file of the two that is named
 abbrev pub fileNamed : Source → (original substitute : List ℕ) → List ℕ
 fileNamed Original original substitute = original
