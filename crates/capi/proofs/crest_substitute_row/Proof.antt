@@ -34,8 +34,7 @@ returns : tie.Need-returns
 returns c =
     let a = c .before .before .before .before .before .before .before .before .before .before .before .args in
     let told = ap (λ (v : Versions). readEither v (now (a .original)) (now (a .substitute)) (a .row)) (sym (c .before .before .before .before .before .before .before .before .choice .ensures)) in
-    let e = told ∙ sym (c .before .before .before .before .before .before .before .read-row .ensures) ∙ ap chosen (c .before .before .before .before .before .found .given .1) in
-    (
+    let e = told ∙ sym (c .before .before .before .before .before .before .before .read-row .ensures) ∙ ap chosen (c .before .before .before .before .before .found .given .1) in (
       c .row .ensures .0 ∙ answered-result e,
       (c .before .before .before .source-number .ensures ∙ answered-part _ _ e, c .row .ensures .1 ∙ answered-part _ _ e),
     )
