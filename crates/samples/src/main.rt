@@ -2,17 +2,23 @@
 // program lists them, among them records of source documents 001 (sections 3.2.1, 3.2.2 and 3.5.12)
 // and 004 (sections 4.4.146 to 4.4.149), one whose lengths are padded with 0 to 7 spaces at four
 // depths, and two with objects of classes U and F, of which one does not divide; a file with labels of
-// both versions, listed and then read with both allowed; the opening of that record of file 12; and
+// both versions, listed and then read with both allowed; the opening of that record of file 12;
 // document 01's cases that are not proved, 6 (depths 8 and 9) and 9 (windows at the end of a waveform
-// row).
+// row); and rows of two files, an original and its substitute, with their bytes.
+use answer::Address;
 use answer::Count;
 use answer::Nesting;
+use answer::Part;
 use answer::Refusal;
 use answer::Show;
+use answer::Shown;
 use label::Versions;
 use libc::STDOUT_FILENO;
 use orbit::Open;
 use reader::Kind;
+use substitute::Choice;
+use substitute::Chosen;
+use substitute::Source;
 
 // How many bytes a waveform row has.
 const ROW: usize = 2080;
@@ -170,6 +176,65 @@ fn print_window(a: usize, c: usize) {
     print(b"\n");
 }
 
+// Prints a row that was chosen: of which file it is, its place, and its bytes.
+fn print_chosen<'a>(original: &'a [u8], substitute: &'a [u8], found: Chosen) {
+    let source = found.source;
+    match source {
+        Source::Original => print(b" original"),
+        Source::Substitute => print(b" substitute"),
+    }
+    let row = found.row;
+    print_number(row.part.place);
+    print(b" ");
+    print(substitute::bytes_of(original, substitute, found));
+    print(b"\n");
+}
+
+// Prints row `k` of a file with a substitute.
+fn print_either<'a>(original: &'a [u8], substitute: &'a [u8], k: usize) {
+    print(b"with a substitute, row");
+    print_number(k);
+    print(b":");
+    match substitute::read_row(Versions::One, original, substitute, k) {
+        Choice::Is(found) => print_chosen(original, substitute, found),
+        Choice::Refused(why, place) => {
+            print_refusal(why, place);
+            print(b"\n");
+        }
+    }
+}
+
+// Prints rows of an original of two rows and a substitute of one: row 0, which both have; row 1; row 2,
+// which neither has; row 0 where a byte of the substitute is missing; and what lies in the original of
+// a part that runs past its end, which no call gave.
+fn print_substitutes() {
+    let original = b"NJPL1I00DEMO00000003abcNJPL1I00DEMO00000002de";
+    let substitute = b"CCSD1Z00000100000023NJPL1I00DEMO00000003xyz";
+    print_either(original, substitute, 0);
+    print_either(original, substitute, 1);
+    print_either(original, substitute, 2);
+    print_either(original, b"CCSD1Z00000100000023NJPL1I00DEMO00000003xy", 0);
+    let row = Shown {
+        part: Part {
+            place: 44,
+            count: 9,
+        },
+        address: Address {
+            label: 24,
+            nesting: Nesting::Absent,
+        },
+    };
+    print(b"a row that no call gave:");
+    print_chosen(
+        original,
+        substitute,
+        Chosen {
+            source: Source::Original,
+            row,
+        },
+    );
+}
+
 fn main() {
     list(b"empty.sfdu");
     list(b"outer_length_42.sfdu");
@@ -192,4 +257,5 @@ fn main() {
     print_window(2048, 0);
     print_window(2048, 1);
     print_window(2049, 0);
+    print_substitutes();
 }
