@@ -10,12 +10,13 @@ use lib.Seq.{drop-cons}
 use lib.Dec.{eqb}
 use borrow.Author.Tests.{le-leb, lt-leb, eq-eqb, ne-eqb}
 use Rattle.label.specs.declared.Versions.{Versions}
-use Rattle.answer.specs.Outcome.{answer, refuse, need}
-use Rattle.answer.proofs.Outcomes.{refused-first, mapped-answer}
+use Rattle.answer.specs.Outcome.{Outcome, answer, refuse, need, andThen, mapped}
+use Rattle.answer.specs.Filled.{filled}
+use Rattle.answer.proofs.Outcomes.{answer-is-no-refusal, first-answered, refused-first, mapped-answer}
 use Rattle.answer.proofs.Writers.{one-more-written}
 use Rattle.sfdu.specs.Row.{Row}
 use Rattle.sfdu.specs.Check.{rowsOfFile, checkLabelled}
-use Rattle.row_index.specs.Index.{indexOf, buildIndex, same, checkIndex}
+use Rattle.row_index.specs.Index.{indexOf, builtOf, buildIndex, same, checkIndex}
 use Rattle.row_index.specs.Private.{theIndex}
 use Rattle.row_index.proofs.Sixteenths.{one-entry-a-group}
 use Rattle.row_index.proofs.Entries.{AtEntry, Entry, first-entry, index-of-accepted}
@@ -37,6 +38,19 @@ lengths-differ (x ∷ xs) (y ∷ ys) d = ap (λ (t : Bool). eqb x y && t) (lengt
     never : (t : Bool) → (t && false) ≡ false
     never true = refl
     never false = refl
+
+-- ---- what a builder answers and leaves in the list, once its outcome is known
+
+pub refused-build : (old : List ℕ) {o r : Outcome (List Row)} → o ≡ r → (mapped builtOf r ≡ mapped builtOf o) × (filled (mapped indexOf r) old ≡ filled (mapped indexOf o) old)
+refused-build old e = (ap (mapped builtOf) (sym e), ap (λ (r : Outcome (List Row)). filled (mapped indexOf r) old) (sym e))
+
+pub index-at-the-front : (old new index : List ℕ) (rows : List Row) (o : Outcome (List Row)) (entries n : ℕ) → o ≡ answer rows → indexOf rows ≡ index
+    → length index ≡ entries → length rows ≡ n → new ≡ index ++ drop (length index) old
+    → (answer (record { entries = entries; rows = n }) ≡ mapped builtOf o) × (new ≡ filled (mapped indexOf o) old)
+index-at-the-front old new index rows o entries n is index-is many rows-are new-is = (
+  ap₂ (λ (m k : ℕ). answer (record { entries = m; rows = k })) (sym (ap length index-is ∙ many)) (sym rows-are) ∙ ap (mapped builtOf) (sym is),
+  new-is ∙ ap (λ (w : List ℕ). w ++ drop (length w) old) (sym index-is) ∙ ap (λ (r : Outcome (List Row)). filled (mapped indexOf r) old) (sym is),
+)
 
 -- which versions of the label are allowed
 module _ (versions : Versions) where
@@ -124,6 +138,16 @@ module _ (versions : Versions) where
         let (rows, accepted, many) = rows-counted in
         rw (accepted, index-of-accepted versions f rows accepted)
 
+    -- how many rows there are, once the comparison is known
+    pub rows-are-indexed : (xs : List ℕ) (t : Bool) → same xs (theIndex versions f) ≡ t
+        → need t 11 (answer n) ≡ andThen (checkIndex versions f xs) (λ _. checkLabelled versions f)
+    rows-are-indexed xs t e =
+        sym (ap₂ (λ (o : Outcome Unit) (c : Outcome ℕ). andThen o (λ _. c)) (index-is-checked xs ∙ ap (λ (b : Bool). need b 11 (answer tt)) e) checked ∙ counted-then t)
+      where
+        counted-then : (b : Bool) → andThen {A = Unit} {B = ℕ} (need b 11 (answer tt)) (λ _. answer n) ≡ need b 11 (answer n)
+        counted-then true = refl
+        counted-then false = refl
+
   module _ (f : List ℕ) (n p : ℕ) (refused : checkLabelled versions f ≡ refuse n p) where
     pub no-rows : rowsOfFile versions f ≡ refuse n p
     unfolding checkLabelled
@@ -136,3 +160,17 @@ module _ (versions : Versions) where
     pub not-checked : (xs : List ℕ) → checkIndex versions f xs ≡ refuse n p
     unfolding checkIndex
     not-checked xs = rw no-rows
+
+-- a file whose rows were counted behind the check of its index has that index; a refusal there is the check's
+module _ (versions : Versions) (f xs : List ℕ) where
+  pub counted-is-checked : (n : ℕ) → andThen (checkIndex versions f xs) (λ _. checkLabelled versions f) ≡ answer n
+      → (checkIndex versions f xs ≡ answer tt) × (checkLabelled versions f ≡ answer n)
+  counted-is-checked n e =
+      let (_, checks, counts) = first-answered (checkIndex versions f xs) (λ _. checkLabelled versions f) n e in (checks, counts)
+
+  pub refused-is-checked : (n p : ℕ) → andThen (checkIndex versions f xs) (λ _. checkLabelled versions f) ≡ refuse n p → checkIndex versions f xs ≡ refuse n p
+  refused-is-checked n p e = cases (checkIndex versions f xs) refl e
+    where
+      cases : (o : Outcome Unit) → checkIndex versions f xs ≡ o → andThen o (λ _. checkLabelled versions f) ≡ refuse n p → o ≡ refuse n p
+      cases (answer tt) is refused = absurd (answer-is-no-refusal (sym is ∙ not-checked versions f n p refused xs))
+      cases (refuse m q) is refused = refused-first (refuse m q) (λ _. 0) refused

@@ -19,7 +19,7 @@ entry-is-a-row (r ∷ rs) zero zero p e = ap (λ (q : Row). q .label) (answer-in
 entry-is-a-row (r ∷ rs) zero (suc i) p e = entry-is-a-row rs 15 i p (ap (nth (r ∷ rs)) {x = suc (15 + 16 * i)} {y = 0 + 16 * suc i} (omega arith) ∙ e)
 
 -- how many entries: one for each started group of sixteen
-groups-after : (rows : List Row) (n : ℕ) → n ≤ 15 → length (every n rows) ≡ (length rows + 15 - n) / 16
+pub groups-after : (rows : List Row) (n : ℕ) → n ≤ 15 → length (every n rows) ≡ (length rows + 15 - n) / 16
 groups-after [] n h = omega arith
 groups-after (r ∷ rs) zero h = ap suc (groups-after rs 15 (omega arith)) ∙ omega arith
 groups-after (r ∷ rs) (suc n) h = groups-after rs n (omega arith) ∙ omega arith

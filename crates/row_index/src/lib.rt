@@ -10,10 +10,12 @@ ghost use mathlib.Core.Path.{_≡_};
 ghost use Prim.Native.Nat.{_+_, _/_, _≤_};
 ghost use mathlib.Core.List.{_++_};
 ghost use lib.ListN.{length, take, drop};
-ghost use Rattle.answer.specs.Outcome.{mapped};
+ghost use Rattle.answer.specs.Outcome.{andThen, mapped};
+ghost use Rattle.answer.specs.Counted.{counted};
 ghost use Rattle.answer.specs.Size.{largestFile};
 ghost use Rattle.answer.specs.Filled.{filled};
 ghost use Rattle.answer.specs.Window.{shown};
+ghost use Rattle.sfdu.specs.Check.{checkLabelled};
 ghost use Rattle.walk.specs.Walk.{walkFrom};
 ghost use Rattle.row_index.specs.Index.{built, indexOf, builtOf, buildIndex, same, accepted, checkIndex, placeFound};
 ghost use Rattle.row_index.specs.Jump.{jumpTo};
@@ -136,21 +138,31 @@ pub fn build_index(versions: Versions, file: &[u8], list: &mut [u32]) -> Build
     }
 }
 
+// How many rows the file has, where the list is its index, entry for entry: 14, faults, 11.
+pub fn rows_indexed(versions: Versions, file: &[u8], list: &[u32]) -> Count
+    ensures { λ r. ⌜ counted r ≡ andThen (checkIndex versions (now (file .entry)) (now (list .entry))) (λ _. checkLabelled versions (now (file .entry))) ⌝ }
+{
+    match labelled::check(versions, file) {
+        Count::Refused(why, place) => Count::Refused(why, place),
+        Count::Is(rows) => {
+            if list.len() != groups(rows) {
+                return Count::Refused(Refusal::BadIndex, 0);
+            }
+            if entries_agree(versions, file, list) {
+                Count::Is(rows)
+            } else {
+                Count::Refused(Refusal::BadIndex, 0)
+            }
+        }
+    }
+}
+
 // Checks a list against the file: it must be the file's index, entry for entry.
 pub fn check_index(versions: Versions, file: &[u8], list: &[u32]) -> Verified
     ensures { λ r. ⌜ accepted r ≡ checkIndex versions (now (file .entry)) (now (list .entry)) ⌝ }
 {
-    match labelled::check(versions, file) {
+    match rows_indexed(versions, file, list) {
         Count::Refused(why, place) => Verified::Refused(why, place),
-        Count::Is(rows) => {
-            if list.len() != groups(rows) {
-                return Verified::Refused(Refusal::BadIndex, 0);
-            }
-            if entries_agree(versions, file, list) {
-                Verified::Right
-            } else {
-                Verified::Refused(Refusal::BadIndex, 0)
-            }
-        }
+        Count::Is(_) => Verified::Right,
     }
 }

@@ -16,7 +16,7 @@ use Rattle.sfdu.specs.Check.{checkLabelled}
 use Rattle.sfdu.proofs.Checking.{accepted-says}
 use Rattle.row_index.specs.Index.{indexOf, builtOf}
 use Rattle.row_index.specs.Private.{theIndex}
-use Rattle.row_index.proofs.Building.{rows-counted, entries-counted, no-room-to-build, index-is-built, not-built}
+use Rattle.row_index.proofs.Building.{refused-build, index-at-the-front, rows-counted, entries-counted, no-room-to-build, index-is-built, not-built}
 use borrow.Author.Needs.{needs}
 use Rattle.row_index.proofs.build_index.Statement.{statement}
 use Rattle.row_index.proofs.build_index.Tie as tie
@@ -39,13 +39,9 @@ is c = sym (c .before .before .check .ensures) ∙ ap counted (c .rows .given .1
 all : (c : tie.After-groups) → length (theIndex (c .before .before .before .before .before .before .before .args .versions) (now (c .before .before .before .before .before .before .before .args .file))) ≡ c .groups .result
 all c = entries-counted (c .before .before .before .before .before .before .before .args .versions) (now (c .before .before .before .before .before .before .before .args .file)) _ (is (c .before .before)) ∙ sym (c .groups .ensures)
 
--- a refusal is answered, and nothing is written
-refused : (xs : List ℕ) {o r : Outcome (List Row)} → o ≡ r → (mapped builtOf r ≡ mapped builtOf o) × (filled (mapped indexOf r) xs ≡ filled (mapped indexOf o) xs)
-refused xs e = (ap (mapped builtOf) (sym e), ap (λ (r : Outcome (List Row)). filled (mapped indexOf r) xs) (sym e))
-
 returns : tie.Need-returns
 returns c =
-    refused (now (c .before .before .before .before .before .before .before .before .args .list))
+    refused-build (now (c .before .before .before .before .before .before .before .before .args .list))
     (no-room-to-build (c .before .before .before .before .before .before .before .before .args .versions) (now (c .before .before .before .before .before .before .before .before .args .file)) _ (is (c .before .before .before)) _ (omega (arith, c .before .groups .ensures, c .if1 .taken)))
 
 write-entries-requires : tie.Need-write-entries-requires
@@ -55,7 +51,7 @@ write-entries-requires c κs =
 
 returns-2 : tie.Need-returns-2
 returns-2 c =
-    refused (now (c .before .before .before .before .before .before .args .list))
+    refused-build (now (c .before .before .before .before .before .before .args .list))
     (not-built (c .before .before .before .before .before .before .args .versions) (now (c .before .before .before .before .before .before .args .file)) _ _ (sym (c .before .before .before .check .ensures) ∙ ap counted (c .before .why .given .1)) _)
 
 same-length : tie.Need-same-length
@@ -68,14 +64,11 @@ returns-3 c =
     let old = now (c .before .before .before .before .before .before .before .before .before .before .before .before .args .list) in
     let entries = c .before .before .before .before .before .groups .result in
     let whole = all (c .before .before .before .before .before) in
-    let (rows, builds, index, many) = index-is-built v f _ (is (c .before .before .before .before .before .before .before)) (length old) (omega (arith, c .before .before .before .before .before .groups .ensures, c .before .before .before .before .if1 .left)) in (
-      ap₂ (λ (m n : ℕ). answer (record { entries = m; rows = n })) (sym (ap length index ∙ whole)) (sym many) ∙ ap (mapped builtOf) (sym builds),
-      c .before .before .write-entries .ensures
-          ∙ ap (λ (t : List ℕ). t ++ drop entries old) (take-all entries (theIndex v f) (le-of-eq whole))
-          ∙ ap (λ (m : ℕ). theIndex v f ++ drop m old) (sym whole)
-          ∙ ap (λ (w : List ℕ). w ++ drop (length w) old) (sym index)
-          ∙ ap (λ (r : Outcome (List Row)). filled (mapped indexOf r) old) (sym builds),
-    )
+    let (rows, builds, index, many) = index-is-built v f _ (is (c .before .before .before .before .before .before .before)) (length old) (omega (arith, c .before .before .before .before .before .groups .ensures, c .before .before .before .before .if1 .left)) in
+    index-at-the-front old _ (theIndex v f) rows _ entries _ builds index whole many
+    (c .before .before .write-entries .ensures
+    ∙ ap (λ (t : List ℕ). t ++ drop entries old) (take-all entries (theIndex v f) (le-of-eq whole))
+    ∙ ap (λ (m : ℕ). theIndex v f ++ drop m old) (sym whole))
 
 pub build-index-spec : {M : Type 1} → statement M
 build-index-spec =
