@@ -31,7 +31,8 @@ ghost use Rattle.reader.specs.Rows.{checkFile};
 ghost use Rattle.reader.specs.Read.{readRow, jumpRow, rowFrom};
 ghost use Rattle.substitute.specs.Chosen.{sourceNumber};
 ghost use Rattle.substitute.specs.Substitute.{readEither};
-ghost use Rattle.row_index.specs.Index.{indexOf, builtOf, buildIndex, accepted, checkIndex};
+ghost use Rattle.row_index.specs.Index.{built, indexOf, builtOf, buildIndex, accepted, checkIndex};
+ghost use Rattle.joined.specs.Joined.{joinIndex};
 ghost use Rattle.kept.specs.Kept.{keepIndex, loadKept};
 ghost use Rattle.kept_rows.specs.Kind2.{listOf, loadedOf, loadKept2, toKind1};
 ghost use Rattle.kept_check.specs.Check.{toKind2, checkKept2};
@@ -329,6 +330,22 @@ pub extern "C" fn crest_substitute_row(
     }
 }
 
+// How many entries of an index were written, and for how many rows.
+fn indexed(answer: Build, entries: &mut usize, rows: &mut usize) -> Result
+    ensures { λ r. ⌜ r ≡ resultOf (built answer) ⌝ }
+    ensures { λ _. ⌜ now (entries .exit) ≡ handed (λ b. b .entries) (built answer) (now (entries .entry)) ⌝ }
+    ensures { λ _. ⌜ now (rows .exit) ≡ handed (λ b. b .rows) (built answer) (now (rows .entry)) ⌝ }
+{
+    match answer {
+        Build::Is(b) => {
+            *entries = b.entries;
+            *rows = b.rows;
+            hand::DONE
+        }
+        Build::Refused(why, place) => hand::refused(why, place),
+    }
+}
+
 // Writes the index of a labelled file to the front of the list.
 #[no_mangle]
 pub extern "C" fn crest_build_index(
@@ -343,14 +360,11 @@ pub extern "C" fn crest_build_index(
     ensures { λ _. ⌜ now (entries .exit) ≡ handed (λ b. b .entries) (mapped builtOf (buildIndex (choiceOf version_2) (now (file .entry)) (size (now (list .entry))))) (now (entries .entry)) ⌝ }
     ensures { λ _. ⌜ now (rows .exit) ≡ handed (λ b. b .rows) (mapped builtOf (buildIndex (choiceOf version_2) (now (file .entry)) (size (now (list .entry))))) (now (rows .entry)) ⌝ }
 {
-    match row_index::build_index(hand::choice(version_2), file, list) {
-        Build::Is(b) => {
-            *entries = b.entries;
-            *rows = b.rows;
-            hand::DONE
-        }
-        Build::Refused(why, place) => hand::refused(why, place),
-    }
+    indexed(
+        row_index::build_index(hand::choice(version_2), file, list),
+        entries,
+        rows,
+    )
 }
 
 // A list, or a record, that is the file's, or not.
@@ -369,6 +383,31 @@ pub extern "C" fn crest_check_index(file: &[u8], version_2: bool, list: &[u32]) 
     ensures { λ r. ⌜ r ≡ resultOf (checkIndex (choiceOf version_2) (now (file .entry)) (now (list .entry))) ⌝ }
 {
     verified(row_index::check_index(hand::choice(version_2), file, list))
+}
+
+// Writes the index of two labelled files set end to end to the front of the list; `index` is the first
+// file's, `other` the second's.
+#[no_mangle]
+pub extern "C" fn crest_joined_index(
+    first: &[u8],
+    index: &[u32],
+    second: &[u8],
+    other: &[u32],
+    version_2: bool,
+    list: &mut [u32],
+    entries: &mut usize,
+    rows: &mut usize,
+) -> Result
+    ensures { λ r. ⌜ r ≡ resultOf (mapped builtOf (joinIndex (choiceOf version_2) (now (first .entry)) (now (index .entry)) (now (second .entry)) (now (other .entry)) (size (now (list .entry))))) ⌝ }
+    ensures { λ _. ⌜ now (list .exit) ≡ filled (mapped indexOf (joinIndex (choiceOf version_2) (now (first .entry)) (now (index .entry)) (now (second .entry)) (now (other .entry)) (size (now (list .entry))))) (now (list .entry)) ⌝ }
+    ensures { λ _. ⌜ now (entries .exit) ≡ handed (λ b. b .entries) (mapped builtOf (joinIndex (choiceOf version_2) (now (first .entry)) (now (index .entry)) (now (second .entry)) (now (other .entry)) (size (now (list .entry))))) (now (entries .entry)) ⌝ }
+    ensures { λ _. ⌜ now (rows .exit) ≡ handed (λ b. b .rows) (mapped builtOf (joinIndex (choiceOf version_2) (now (first .entry)) (now (index .entry)) (now (second .entry)) (now (other .entry)) (size (now (list .entry))))) (now (rows .entry)) ⌝ }
+{
+    indexed(
+        joined::join_index(hand::choice(version_2), first, index, second, other, list),
+        entries,
+        rows,
+    )
 }
 
 // Writes the kept form of a list to the front of `out`.
