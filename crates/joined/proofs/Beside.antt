@@ -1,6 +1,6 @@
 -- Two forests side by side: their bytes, their leaves and their values are those of the one and then those of the other. Each law is one
 -- induction over the first forest.
-use Prim.Native.Nat.{ℕ, zero, suc, _+_}
+use Prim.Native.Nat.{ℕ, suc, _+_}
 use native.Mathlib.Nat.{add-zero}
 use mathlib.Core.Path.{_≡_, refl, _∙_, sym, ap}
 use mathlib.Core.List.{List, _∷_, _++_, append-assoc}

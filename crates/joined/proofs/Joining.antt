@@ -1,19 +1,19 @@
 -- Document 02, item 10: two accepted files set end to end (`joined-rolls`). Their forests stand side by side, so the leaves of the second
 -- are behind all bytes of the first.
 use Prim.Native.Nat.{ℕ, _+_, _≤_, _<_}
-use native.Mathlib.Nat.{add-zero, zero-add}
 use native.Mathlib.Omega.{arith}
 use mathlib.Core.Path.{_≡_, refl, _∙_, sym, ap, ap₂}
+use mathlib.Core.Bool.{Bool}
 use mathlib.Core.List.{List, _++_, map}
 use lib.ListN.{length, length-append}
 use lib.Dec.{leb}
 use borrow.Author.Tests.{le-leb, lt-leb}
 use Rattle.answer.specs.Outcome.{answer, refuse, need}
-use Rattle.answer.specs.Size.{largestFile}
+use Rattle.answer.specs.Size.{largestFile, ofFile}
 use Rattle.answer.proofs.Outcomes.{after-answer}
 use Rattle.label.specs.declared.Versions.{Versions}
-use Rattle.sfdu.specs.Row.{Row, valueAt}
-use Rattle.sfdu.specs.Forest.{Forest, encode, Valid, leaves, values}
+use Rattle.sfdu.specs.Row.{Row}
+use Rattle.sfdu.specs.Forest.{Forest, encode, leaves}
 use Rattle.sfdu.specs.Check.{rowsOfFile}
 use Rattle.sfdu.proofs.Exact.{DividesFile, fileLeaves, accepted-exactly}
 use Rattle.sfdu.proofs.Values.{bytes-are-values}
@@ -60,6 +60,12 @@ module _ (versions : Versions) where
     unfolding joinIndex
     sum-too-long h = rw (lt-leb (length (a ++ b)) largestFile (omega (arith, length-append a b))) refl
 
+    -- both lists are the files' indexes
+    pub of-both : checkIndex versions a xs ≡ answer tt → checkIndex versions b ys ≡ answer tt
+        → joinIndex versions a xs b ys room ≡ ofFile (a ++ b) (buildIndex versions (a ++ b) room)
+    unfolding joinIndex
+    of-both first second = rw (first, second) refl
+
     module _ (small : length a + length b ≤ largestFile) where
       pub first-refused : (n p : ℕ) → checkIndex versions a xs ≡ refuse n p → joinIndex versions a xs b ys room ≡ refuse n p
       unfolding joinIndex
@@ -71,8 +77,8 @@ module _ (versions : Versions) where
         second-refused n p e = rw (le-leb (length (a ++ b)) largestFile (sum-of-lengths a b small), first, e) refl
 
         pub both-checked : checkIndex versions b ys ≡ answer tt → joinIndex versions a xs b ys room ≡ buildIndex versions (a ++ b) room
-        unfolding joinIndex
-        both-checked second = rw (le-leb (length (a ++ b)) largestFile (sum-of-lengths a b small), first, second) refl
+        both-checked second =
+            of-both first second ∙ ap (λ (t : Bool). need t 14 (buildIndex versions (a ++ b) room)) (le-leb (length (a ++ b)) largestFile (sum-of-lengths a b small))
 
   -- ---- the theorem
 

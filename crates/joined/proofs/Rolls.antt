@@ -1,12 +1,12 @@
 -- Document 02, item 10: joining is associative, and the empty file changes nothing (`rolls`).
 use Prim.Native.Nat.{ℕ, _+_, _≤_}
 use native.Mathlib.Omega.{arith}
-use mathlib.Core.Path.{_≡_, refl, _∙_, sym, ap, ap₂}
+use mathlib.Core.Path.{_≡_, refl, _∙_, sym, ap}
 use mathlib.Core.List.{List, [], _++_, append-assoc, append-nil, map, map-append}
 use lib.ListN.{length, length-append}
 use lib.Dec.{leb}
-use borrow.Author.Tests.{le-leb, lt-leb, leb-true}
-use Rattle.answer.specs.Outcome.{Outcome, answer, need, andThen, mapped}
+use borrow.Author.Tests.{le-leb}
+use Rattle.answer.specs.Outcome.{answer, need, mapped}
 use Rattle.answer.specs.Size.{largestFile, ofFile}
 use Rattle.answer.proofs.Outcomes.{passed, first-answered, mapped-answer}
 use Rattle.label.specs.declared.Versions.{Versions}
@@ -20,7 +20,7 @@ use Rattle.row_index.proofs.IndexExact.{index-check-is-exact}
 use Rattle.joined.specs.Joined.{movedBy, joinedRows, joinIndex}
 use Rattle.joined.specs.Rolls.{Rolls}
 use Rattle.joined.proofs.Moved.{moved-twice, not-moved}
-use Rattle.joined.proofs.Joining.{both-checked}
+use Rattle.joined.proofs.Joining.{of-both}
 
 -- ---- the rows
 
@@ -58,12 +58,6 @@ module _ (versions : Versions) where
         both = index-check-is-exact versions (a ++ b) u .1 (rows, accepted ∙ is, sym index);
       }
 
-  -- the call where both lists are the files' indexes
-  module _ (a xs b ys : List ℕ) (room : ℕ) (first : checkIndex versions a xs ≡ answer tt) (second : checkIndex versions b ys ≡ answer tt) where
-    of-both : joinIndex versions a xs b ys room ≡ ofFile (a ++ b) (buildIndex versions (a ++ b) room)
-    unfolding joinIndex
-    of-both = rw (first, second) refl
-
   index-in-any-order : (a xs b ys c zs u v : List ℕ) (r s room : ℕ)
       → mapped indexOf (joinIndex versions a xs b ys r) ≡ answer u
       → mapped indexOf (joinIndex versions b ys c zs s) ≡ answer v
@@ -71,9 +65,9 @@ module _ (versions : Versions) where
   index-in-any-order a xs b ys c zs u v r s room left right =
       let l = answered a xs b ys u r left in
       let m = answered b ys c zs v s right in
-      of-both (a ++ b) u c zs room (l .both) (m .second)
+      of-both versions (a ++ b) u c zs room (l .both) (m .second)
       ∙ ap (λ (f : List ℕ). ofFile f (buildIndex versions f room)) (append-assoc a b c)
-      ∙ sym (of-both a xs (b ++ c) v room (l .first) (m .both))
+      ∙ sym (of-both versions a xs (b ++ c) v room (l .first) (m .both))
 
   -- ---- the empty file
 
@@ -100,8 +94,8 @@ module _ (versions : Versions) where
     nothing-before = λ a rows. (refl, not-moved rows);
     nothing-behind = λ a rows. (append-nil a, append-nil rows);
     same-index-either-side = λ a xs room checks h. (
-      ap (mapped indexOf) (of-both [] [] a xs room nothing-indexed checks) ∙ built-of a xs room checks h,
-      ap (mapped indexOf) (of-both a xs [] [] room checks nothing-indexed)
+      ap (mapped indexOf) (of-both versions [] [] a xs room nothing-indexed checks) ∙ built-of a xs room checks h,
+      ap (mapped indexOf) (of-both versions a xs [] [] room checks nothing-indexed)
           ∙ ap (λ (f : List ℕ). mapped indexOf (ofFile f (buildIndex versions f room))) (append-nil a) ∙ built-of a xs room checks h,
     );
   }

@@ -2,9 +2,9 @@
 -- rows that are moved, the places move.
 use Prim.Native.Nat.{ℕ, zero, suc, _+_, _-_, _*_, _≤_, _<_}
 use native.Mathlib.Omega.{arith}
-use mathlib.Core.Path.{_≡_, refl, _∙_, sym, ap}
+use mathlib.Core.Path.{_≡_, refl, _∙_, ap}
 use mathlib.Core.List.{List, [], _∷_, _++_, map}
-use lib.ListN.{length, getD, length-map}
+use lib.ListN.{length, getD}
 use Rattle.sfdu.specs.Row.{Row}
 use Rattle.row_index.specs.Index.{every, indexOf}
 use Rattle.row_index.proofs.Sixteenths.{groups-after, one-entry-a-group}

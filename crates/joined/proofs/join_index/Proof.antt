@@ -1,7 +1,5 @@
 -- `joined::join_index` meets its contract: the sum is too long, either file or its list is refused, or the joined index is built. What the
 -- counts say of each file is `first` and `second`.
-use Prim.Native.Nat.{_+_}
-use native.Mathlib.Omega.{arith}
 use mathlib.Core.Path.{_≡_, _∙_, sym, ap}
 use mathlib.Core.List.{List}
 use lib.ListN.{length}

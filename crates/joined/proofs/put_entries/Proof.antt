@@ -4,7 +4,7 @@ use native.Mathlib.Omega.{arith}
 use native.Mathlib.Nat.{le-refl}
 use mathlib.Core.Path.{_≡_, refl}
 use lib.ListN.{length}
-use borrow.Author.Needs.{needs, scaled-fits}
+use borrow.Author.Needs.{needs}
 use denote.Ref.{now}
 use Rattle.joined.proofs.Writing.{Putting, nothing-put, one-put, same-long, all-put}
 use Rattle.joined.proofs.put_entries.Statement.{statement}

@@ -2,9 +2,9 @@
 -- the walk came to is `found`.
 use Prim.Native.Nat.{ℕ, _+_, _-_}
 use native.Mathlib.Omega.{arith}
-use mathlib.Core.Path.{_≡_, _∙_, sym, ap}
+use mathlib.Core.Path.{_≡_, _∙_, ap}
 use lib.ListN.{length}
-use borrow.Author.Needs.{needs, scaled-fits}
+use borrow.Author.Needs.{needs}
 use denote.Ref.{now}
 use Rattle.joined.specs.Private.{further}
 use Rattle.joined.proofs.Writing.{Putting, nothing-put, one-put, same-long, all-put, Further, further-entry}

@@ -3,18 +3,15 @@
 use native.Mathlib.Omega.{arith}
 use Prim.Native.Nat.{ℕ}
 use native.Mathlib.Nat.{le-of-eq}
-use mathlib.Core.Path.{_≡_, _∙_, sym, ap, ap₂}
+use mathlib.Core.Path.{_≡_, _∙_, sym, ap}
 use mathlib.Core.List.{List, _++_}
 use lib.ListN.{length, drop}
 use lib.Seq.{take-all}
 use denote.Ref.{now}
-use Rattle.answer.specs.Outcome.{Outcome, answer, mapped}
+use Rattle.answer.specs.Outcome.{answer}
 use Rattle.answer.specs.Counted.{counted}
-use Rattle.answer.specs.Filled.{filled}
-use Rattle.sfdu.specs.Row.{Row}
 use Rattle.sfdu.specs.Check.{checkLabelled}
 use Rattle.sfdu.proofs.Checking.{accepted-says}
-use Rattle.row_index.specs.Index.{indexOf, builtOf}
 use Rattle.row_index.specs.Private.{theIndex}
 use Rattle.row_index.proofs.Building.{refused-build, index-at-the-front, rows-counted, entries-counted, no-room-to-build, index-is-built, not-built}
 use borrow.Author.Needs.{needs}
