@@ -1,8 +1,8 @@
 -- How a writer's promise is met: by a refusal with nothing written, or by what it writes followed by the rest.
-use Prim.Native.Nat.{ℕ, suc, _+_, _-_, _≤_, _<_}
+use Prim.Native.Nat.{ℕ, suc, _+_, _-_, _≤_, _<_, zero-le}
 use native.Mathlib.Nat.{le-of-eq}
 use native.Mathlib.Omega.{arith}
-use mathlib.Core.Path.{_≡_, _∙_, sym, ap, ap₂}
+use mathlib.Core.Path.{_≡_, refl, _∙_, sym, ap, ap₂}
 use mathlib.Core.List.{List, [], _∷_, _++_, append-assoc, append-nil}
 use lib.ListN.{length, getD, set, take, drop, length-append, length-drop, drop-of-length-le}
 use native.Mathlib.Numerals.{add-one}
@@ -58,7 +58,7 @@ module _ (w ys old front back : List ℕ) (n : ℕ) (h : length w ≡ n) (room :
 -- A loop that writes `xs` over `old` from the front, one a turn: after i turns the list holds the first i of `xs` and the rest
 -- of `old`.
 module _ (xs old : List ℕ) (i : ℕ) where
-  pub one-more-written : (v : ℕ) → i < length xs → i < length old → v ≡ getD xs i 0
+  one-more-written : (v : ℕ) → i < length xs → i < length old → v ≡ getD xs i 0
       → set (take i xs ++ drop i old) i v ≡ take (i + 1) xs ++ drop (i + 1) old
   one-more-written v h k e =
       ap (λ (t : List ℕ). set (take i xs ++ t) i v) (drop-cons old i 0 k)
@@ -70,3 +70,25 @@ module _ (xs old : List ℕ) (i : ℕ) where
 
   pub written-length : i ≤ length xs → i ≤ length old → length (take i xs ++ drop i old) ≡ length old
   written-length h k = length-append (take i xs) (drop i old) ∙ omega (arith, length-take-le i xs h, length-drop i old)
+
+-- The invariant of a loop that writes the first n of `xs`.
+pub record Putting (xs old list : List ℕ) (n i : ℕ) : Type 0 where
+  pub within : i ≤ n
+  pub holds : list ≡ take i xs ++ drop i old
+
+module _ (xs old : List ℕ) (n : ℕ) where
+  pub nothing-put : Putting xs old old n 0
+  nothing-put = record { within = zero-le; holds = refl }
+
+  module _ (list : List ℕ) (i : ℕ) (p : Putting xs old list n i) (h : n ≤ length xs) (k : n ≤ length old) where
+    pub one-put : (v : ℕ) → i < n → v ≡ getD xs i 0 → Putting xs old (set list i v) n (i + 1)
+    one-put v more e = record {
+      within = omega arith;
+      holds = ap (λ (l : List ℕ). set l i v) (p .holds) ∙ one-more-written xs old i v (omega arith) (omega arith) e;
+    }
+
+    pub same-long : length list ≡ length old
+    same-long = ap length (p .holds) ∙ written-length xs old i (omega (arith, p .within)) (omega (arith, p .within))
+
+  pub all-put : (list : List ℕ) (i : ℕ) → Putting xs old list n i → n ≤ i → list ≡ take n xs ++ drop n old
+  all-put list i p h = p .holds ∙ ap (λ (m : ℕ). take m xs ++ drop m old) {x = i} {y = n} (omega (arith, p .within))

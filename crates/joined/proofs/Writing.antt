@@ -1,18 +1,16 @@
--- The call in its code's own terms: the loops that write, an entry of the second file, and what is known of two files whose indexes were
--- checked.
-use Prim.Native.Nat.{ℕ, _+_, _-_, _*_, _/_, _≤_, _<_, zero-le}
+-- The call in its code's own terms: an entry of the second file, and what is known of two files whose indexes were checked.
+use Prim.Native.Nat.{ℕ, _+_, _-_, _*_, _/_, _≤_, _<_}
 use native.Mathlib.Nat.{not-suc-le-zero}
 use native.Mathlib.Omega.{arith}
 use mathlib.Core.Path.{_≡_, refl, _∙_, sym, ap, ap₂}
 use mathlib.Core.List.{List, _++_, map}
-use lib.ListN.{length, getD, set, take, drop, length-append, length-map}
+use lib.ListN.{length, getD, length-append, length-map}
 use Rattle.answer.specs.Outcome.{Outcome, answer, refuse, andThen, mapped}
 use Rattle.answer.specs.Nth.{nth}
 use Rattle.answer.specs.Size.{largestFile}
 use Rattle.answer.specs.declared.Shown.{Shown}
 use Rattle.answer.proofs.Outcomes.{first-answered, answer-injective}
 use Rattle.answer.proofs.Nths.{nth-is-there}
-use Rattle.answer.proofs.Writers.{one-more-written, written-length}
 use Rattle.label.specs.declared.Versions.{Versions}
 use Rattle.sfdu.specs.Row.{Row}
 use Rattle.sfdu.specs.Check.{rowsOfFile, checkLabelled}
@@ -32,29 +30,6 @@ use Rattle.joined.specs.Joined.{movedBy, joinedRows}
 use Rattle.joined.specs.Private.{known, further}
 use Rattle.joined.proofs.Sixteenths.{index-in-turn, no-more-entries, moved-entry}
 use Rattle.joined.proofs.Joining.{joined-accepted}
-
--- ---- a loop that writes the first n of some entries over a list
-
-pub record Putting (xs old list : List ℕ) (n i : ℕ) : Type 0 where
-  pub within : i ≤ n
-  pub holds : list ≡ take i xs ++ drop i old
-
-module _ (xs old : List ℕ) (n : ℕ) where
-  pub nothing-put : Putting xs old old n 0
-  nothing-put = record { within = zero-le; holds = refl }
-
-  module _ (list : List ℕ) (i : ℕ) (p : Putting xs old list n i) (h : n ≤ length xs) (k : n ≤ length old) where
-    pub one-put : (v : ℕ) → i < n → v ≡ getD xs i 0 → Putting xs old (set list i v) n (i + 1)
-    one-put v more e = record {
-      within = omega arith;
-      holds = ap (λ (l : List ℕ). set l i v) (p .holds) ∙ one-more-written xs old i v (omega arith) (omega arith) e;
-    }
-
-    pub same-long : length list ≡ length old
-    same-long = ap length (p .holds) ∙ written-length xs old i (omega (arith, p .within)) (omega (arith, p .within))
-
-  pub all-put : (list : List ℕ) (i : ℕ) → Putting xs old list n i → n ≤ i → list ≡ take n xs ++ drop n old
-  all-put list i p h = p .holds ∙ ap (λ (m : ℕ). take m xs ++ drop m old) {x = i} {y = n} (omega (arith, p .within))
 
 -- which versions of the label are allowed
 module _ (versions : Versions) where

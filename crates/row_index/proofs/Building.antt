@@ -1,11 +1,11 @@
 -- The builder and the check of an index, in their code's own terms: the loops' invariants, and each answer case by case.
-use Prim.Native.Nat.{ℕ, suc, _+_, _/_, _≤_, _<_, zero-le}
+use Prim.Native.Nat.{ℕ, suc, _+_, _/_, _≤_, _<_}
 use native.Mathlib.Numerals.{add-one}
 use native.Mathlib.Omega.{arith}
 use mathlib.Core.Path.{_≡_, refl, _∙_, sym, ap, ap₂}
 use mathlib.Core.Bool.{Bool, true, false, _&&_}
 use mathlib.Core.List.{List, [], _∷_, _++_}
-use lib.ListN.{length, getD, set, take, drop, drop-of-length-le}
+use lib.ListN.{length, getD, set, drop, drop-of-length-le}
 use lib.Seq.{drop-cons}
 use lib.Dec.{eqb}
 use borrow.Author.Tests.{le-leb, lt-leb, eq-eqb, ne-eqb}
@@ -13,7 +13,7 @@ use Rattle.label.specs.declared.Versions.{Versions}
 use Rattle.answer.specs.Outcome.{Outcome, answer, refuse, need, andThen, mapped}
 use Rattle.answer.specs.Filled.{filled}
 use Rattle.answer.proofs.Outcomes.{answer-is-no-refusal, first-answered, refused-first, mapped-answer}
-use Rattle.answer.proofs.Writers.{one-more-written}
+use Rattle.answer.proofs.Writers.{Putting, nothing-put, one-put}
 use Rattle.sfdu.specs.Row.{Row}
 use Rattle.sfdu.specs.Check.{rowsOfFile, checkLabelled}
 use Rattle.row_index.specs.Index.{indexOf, builtOf, buildIndex, same, checkIndex}
@@ -57,22 +57,16 @@ module _ (versions : Versions) where
   -- ---- the builder's loop
 
   pub record Writing (f : List ℕ) (entries : ℕ) (old list : List ℕ) (i from leaves : ℕ) : Type 0 where
-    pub within : i ≤ entries
+    pub put : Putting (theIndex versions f) old list entries i
     pub at : AtEntry versions f i from leaves
-    pub holds : list ≡ take i (theIndex versions f) ++ drop i old
 
   pub nothing-written : (f : List ℕ) (entries : ℕ) (old : List ℕ) → Writing f entries old old 0 0 0
-  nothing-written f entries old = record { within = zero-le; at = first-entry versions f; holds = refl }
+  nothing-written f entries old = record { put = nothing-put (theIndex versions f) old entries; at = first-entry versions f }
 
   pub entry-written : (f : List ℕ) (entries : ℕ) (old list : List ℕ) (i from leaves place : ℕ) → Writing f entries old list i from leaves
       → entries ≤ length (theIndex versions f) → entries ≤ length old → i < entries → Entry versions f i place → Writing f entries old (set list i place) (i + 1) place 16
-  entry-written f entries old list i from leaves place w h k more entry = record {
-    within = omega arith;
-    at = entry .on;
-    holds =
-        ap (λ (l : List ℕ). set l i place) (w .holds)
-        ∙ one-more-written (theIndex versions f) old i place (omega arith) (omega arith) (entry .is);
-  }
+  entry-written f entries old list i from leaves place w h k more entry =
+      record { put = one-put (theIndex versions f) old entries list i (w .put) h k place more (entry .is); at = entry .on }
 
   -- ---- the check's loop
 

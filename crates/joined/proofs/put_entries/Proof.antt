@@ -6,7 +6,7 @@ use mathlib.Core.Path.{_≡_, refl}
 use lib.ListN.{length}
 use borrow.Author.Needs.{needs}
 use denote.Ref.{now}
-use Rattle.joined.proofs.Writing.{Putting, nothing-put, one-put, same-long, all-put}
+use Rattle.answer.proofs.Writers.{Putting, nothing-put, one-put, same-long, all-put}
 use Rattle.joined.proofs.put_entries.Statement.{statement}
 use Rattle.joined.proofs.put_entries.Tie as tie
 

@@ -7,7 +7,8 @@ use lib.ListN.{length}
 use borrow.Author.Needs.{needs}
 use denote.Ref.{now}
 use Rattle.joined.specs.Private.{further}
-use Rattle.joined.proofs.Writing.{Putting, nothing-put, one-put, same-long, all-put, Further, further-entry}
+use Rattle.answer.proofs.Writers.{Putting, nothing-put, one-put, same-long, all-put}
+use Rattle.joined.proofs.Writing.{Further, further-entry}
 use Rattle.joined.proofs.put_further.Statement.{statement}
 use Rattle.joined.proofs.put_further.Tie as tie
 

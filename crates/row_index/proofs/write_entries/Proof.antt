@@ -1,12 +1,11 @@
 -- `row_index::write_entries` meets its contract. The measure is what is left of the list; the invariant is `Writing`.
-use Prim.Native.Nat.{ℕ, _-_}
-use mathlib.Core.List.{_++_}
+use Prim.Native.Nat.{_-_}
 use native.Mathlib.Omega.{arith}
-use mathlib.Core.Path.{_≡_, _∙_, sym, ap, subst}
-use lib.ListN.{length, take, drop}
+use mathlib.Core.Path.{_≡_, sym, subst}
+use lib.ListN.{length}
 use borrow.Author.Needs.{needs, scaled-fits}
 use denote.Ref.{now}
-use Rattle.answer.proofs.Writers.{written-length}
+use Rattle.answer.proofs.Writers.{same-long, all-put}
 use Rattle.row_index.specs.Private.{theIndex}
 use Rattle.row_index.proofs.Entries.{Entry, entry-found}
 use Rattle.row_index.proofs.Building.{Writing, nothing-written, entry-written}
@@ -25,10 +24,9 @@ loop-holds c = nothing-written (c .before .before .args .versions) (now (c .befo
 -- the list keeps its length
 long : (c : tie.At-loop Inv μ) → length (c .loop .list) ≡ length (now (c .before .before .before .args .list))
 long c =
-    let w = c .loop in
-    let pre = c .before .before .before .pre in
-    ap length (w .inv .holds)
-    ∙ written-length (theIndex (c .before .before .before .args .versions) (now (c .before .before .before .args .file))) (now (c .before .before .before .args .list)) (w .i) (omega (arith, pre .1, w .inv .within)) (omega (arith, pre .2, w .inv .within))
+    let s = c .before .before .before in
+    let a = s .args in
+    same-long (theIndex (a .versions) (now (a .file))) (now (a .list)) (a .entries) (c .loop .list) (c .loop .i) (c .loop .inv .put) (s .pre .1) (s .pre .2)
 
 entry-from-requires : tie.Need-entry-from-requires Inv μ
 entry-from-requires c κs = search needs
@@ -66,9 +64,8 @@ same-length c = long (c .before)
 returns : tie.Need-returns Inv μ
 returns c =
     let w = c .before .loop in
-    w .inv .holds
-    ∙ ap (λ (n : ℕ). take n (theIndex (c .before .before .before .before .args .versions) (now (c .before .before .before .before .args .file))) ++ drop n (now (c .before .before .before .before .args .list))) {x = w .i} {y = c .before .before .before .before .args .entries}
-    (omega (arith, w .inv .within, c .loop-test .left))
+    let a = c .before .before .before .before .args in
+    all-put (theIndex (a .versions) (now (a .file))) (now (a .list)) (a .entries) (w .list) (w .i) (w .inv .put) (c .loop-test .left)
 
 pub write-entries-spec : {M : Type 1} → statement M
 write-entries-spec =
