@@ -164,7 +164,7 @@ static inline crest_refusal_words crest_words_of(uint64_t number)
         {"BADINDEX", "the list is not the index of this file, or the row count is not this file's"},
         {"RAGGED", "the waveform file is no multiple of 2,080 bytes, or the rest of the burst file none of 1,272"},
         {"BADKEPT", "these bytes are no kept index of the kind asked for"},
-        {"TOOBIG", "the file has more than 4,294,967,295 bytes, or the index too many entries to be kept"},
+        {"TOOBIG", "there are more than 4,294,967,295 bytes in the file or in two files joined, or too many entries to be kept"},
         {"TOOLONG", "a version 1 label cannot hold a length of more than 99,999,999 bytes"},
         {"BADSTART", "the first record's place is beyond the file"},
         {"NUMBER", "no refusal has this number"}
@@ -337,6 +337,18 @@ crest_result crest_build_index(const uint8_t *file, size_t file_len, bool versio
  * Writes: nothing.
  */
 crest_result crest_check_index(const uint8_t *file, size_t file_len, bool version_2, const uint32_t *list, size_t list_len);
+
+/*
+ * joined::join_index. Writes the index of two files set end to end, the bytes of first and then those of second, from the files and
+ * their indexes; no joined file is built. Its rows are those of first and then those of second, whose places grow by first_len.
+ * version_2 holds for both files. Each of them is gone through twice.
+ * Refuses: TOOBIG where first_len and second_len come to more than 4,294,967,295, whatever the files are; then as crest_check_index
+ * for first and first_list; the same for second and second_list, with places in second; SMALL.
+ * Writes: the first entries numbers of list; entries and rows, how many of each the joined file has.
+ */
+crest_result crest_joined_index(const uint8_t *first, size_t first_len, const uint32_t *first_list, size_t first_list_len,
+                                const uint8_t *second, size_t second_len, const uint32_t *second_list, size_t second_list_len,
+                                bool version_2, uint32_t *list, size_t list_len, uint64_t *entries, uint64_t *rows);
 
 /*
  * kept::keep. Writes an index as bytes to keep, of kind 1: 6, and 4 for each entry.

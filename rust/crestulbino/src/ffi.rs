@@ -123,6 +123,7 @@ unsafe extern "C" {
     fn crest_substitute_row(original: *const u8, original_len: usize, substitute: *const u8, substitute_len: usize, version_2: bool, row: u64, source: *mut u64, shown: *mut RowNumbers) -> Outcome;
     fn crest_build_index(file: *const u8, file_len: usize, version_2: bool, list: *mut u32, list_len: usize, entries: *mut u64, rows: *mut u64) -> Outcome;
     fn crest_check_index(file: *const u8, file_len: usize, version_2: bool, list: *const u32, list_len: usize) -> Outcome;
+    fn crest_joined_index(first: *const u8, first_len: usize, first_list: *const u32, first_list_len: usize, second: *const u8, second_len: usize, second_list: *const u32, second_list_len: usize, version_2: bool, list: *mut u32, list_len: usize, entries: *mut u64, rows: *mut u64) -> Outcome;
     fn crest_keep_index(list: *const u32, list_len: usize, out: *mut u8, out_len: usize, written: *mut u64) -> Outcome;
     fn crest_load_kept(bytes: *const u8, bytes_len: usize, list: *mut u32, list_len: usize, entries: *mut u64) -> Outcome;
     fn crest_load_kept2(bytes: *const u8, bytes_len: usize, list: *mut u32, list_len: usize, rows: *mut u64, entries: *mut u64) -> Outcome;
@@ -458,6 +459,39 @@ pub(crate) fn check_index(file: &[u8], version_2: bool, list: &[u32]) -> Outcome
     }
 }
 
+#[allow(clippy::too_many_arguments)] // Those of the header.
+#[inline]
+pub(crate) fn joined_index(
+    first: &[u8],
+    first_list: &[u32],
+    second: &[u8],
+    second_list: &[u32],
+    version_2: bool,
+    list: &mut [u32],
+    entries: &mut u64,
+    rows: &mut u64,
+) -> Outcome {
+    // SAFETY: `first`, `first_list`, `second` and `second_list` are shared slices with their lengths;
+    // `list`, `entries` and `rows` are lent alone.
+    unsafe {
+        crest_joined_index(
+            first.as_ptr(),
+            first.len(),
+            first_list.as_ptr(),
+            first_list.len(),
+            second.as_ptr(),
+            second.len(),
+            second_list.as_ptr(),
+            second_list.len(),
+            version_2,
+            list.as_mut_ptr(),
+            list.len(),
+            entries,
+            rows,
+        )
+    }
+}
+
 #[inline]
 pub(crate) fn keep_index(list: &[u32], out: &mut [u8], written: &mut u64) -> Outcome {
     // SAFETY: `list` is a shared slice with its length; `out` and `written` are lent alone.
@@ -665,8 +699,9 @@ mod tests {
     const EMPTY_1: [u8; 6] = [2, 0, 0, 0, 1, 0];
     const EMPTY_2: [u8; 10] = [6, 0, 0, 0, 2, 0, 0, 0, 0, 0];
 
-    /// A labelled file of one row.
+    /// A labelled file of one row, and its index.
     const ROW: &[u8; 23] = b"NJPL1I00DEMO00000003abc";
+    const INDEX: [u32; 1] = [0];
 
     /// The header allows a null pointer with length 0, which no slice has.
     #[test]
@@ -686,9 +721,9 @@ mod tests {
         };
         let mut shown = sevens;
         let heads = [(1, b"NJPL1I00DEMO"), (2, b"NJPL2I00DEMO")];
-        // SAFETY: each pointer with a length is null with length 0, or that of a head, of a kept index
-        // or of a file with its length; the others point to the variables above, no two of a call to the
-        // same.
+        // SAFETY: each pointer with a length is null with length 0, or that of a head, of a kept index,
+        // of a list or of a file with its length; the others point to the variables above, no two of a call
+        // to the same.
         unsafe {
             for version_2 in [false, true] {
                 let label = crest_read_label(
@@ -713,6 +748,33 @@ mod tests {
                 let chosen =
                     crest_substitute_row(null(), 0, null(), 0, version_2, 0, &mut one, &mut shown);
                 assert_eq!(chosen, refused(6));
+                // No file on one side; on the other a row without its list, or with it and without room.
+                let none = (null(), 0, null(), 0);
+                let unlisted = (ROW.as_ptr(), ROW.len(), null(), 0);
+                let listed = (ROW.as_ptr(), ROW.len(), INDEX.as_ptr(), INDEX.len());
+                for (first, second, refusal) in [
+                    (unlisted, none, 11),
+                    (none, unlisted, 11),
+                    (listed, none, 8),
+                    (none, listed, 8),
+                ] {
+                    let joined = crest_joined_index(
+                        first.0,
+                        first.1,
+                        first.2,
+                        first.3,
+                        second.0,
+                        second.1,
+                        second.2,
+                        second.3,
+                        version_2,
+                        null_mut(),
+                        0,
+                        &mut one,
+                        &mut two,
+                    );
+                    assert_eq!(joined, refused(refusal));
+                }
                 // No file and no record; no file, a record of no entries and no room.
                 let kept = crest_check_kept2(null(), 0, version_2, null(), 0);
                 assert_eq!(kept, refused(13));
@@ -812,6 +874,23 @@ mod tests {
                 }
                 let index = crest_check_index(null(), 0, version_2, null(), 0);
                 assert_eq!(index, ANSWERED);
+                (one, two) = (7, 7);
+                let joined = crest_joined_index(
+                    null(),
+                    0,
+                    null(),
+                    0,
+                    null(),
+                    0,
+                    null(),
+                    0,
+                    version_2,
+                    null_mut(),
+                    0,
+                    &mut one,
+                    &mut two,
+                );
+                assert_eq!((joined, one, two), (ANSWERED, 0, 0));
                 let kept = crest_check_kept2(null(), 0, version_2, EMPTY_2.as_ptr(), 10);
                 assert_eq!(kept, ANSWERED);
             }

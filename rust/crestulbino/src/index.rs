@@ -1,5 +1,5 @@
-//! The index of a labelled file, and its kept forms: kind 1, the list; kind 2, the row count and
-//! the list.
+//! The index of a labelled file and of two of them joined, and its kept forms: kind 1, the list;
+//! kind 2, the row count and the list.
 
 use crate::ffi;
 use crate::label::Versions;
@@ -15,12 +15,12 @@ pub const KEPT_FRONT_BYTES: usize = 6;
 /// The same of kind 2, which has the row count there, of four bytes too.
 pub const KEPT2_FRONT_BYTES: usize = 10;
 
-/// What [`build_index`] answers.
+/// What [`build_index`] and [`joined_index`] answer.
 #[derive(Clone, Copy, Debug, PartialEq, Eq, Hash)]
 pub struct Built {
     /// How many entries were written to the front of the list.
     pub entries: usize,
-    /// How many rows the file has.
+    /// How many rows the file has, or both files together.
     pub rows: usize,
 }
 
@@ -74,6 +74,61 @@ pub fn build_index(versions: Versions, file: &[u8], list: &mut [u32]) -> Result<
 #[inline]
 pub fn check_index(versions: Versions, file: &[u8], list: &[u32]) -> Result<(), Refused> {
     ffi::check_index(file, versions.version_2(), list).result()
+}
+
+/// Writes the index of two labelled files set end to end to the front of `list`, from the files and
+/// their indexes. It is what [`build_index`] writes for the joined file, of which no copy is made.
+///
+/// Its rows are those of `first` and then those of `second`, whose places grow by the length of
+/// `first`; where the rows of `first` do not fill their last group of 16, `second` fills it. Each file
+/// is gone through twice, so that the time grows with the sum of their sizes.
+///
+/// Refuses: `TooBig` where the two lengths come to more than 4,294,967,295, whatever the files are; as
+/// [`check_index`] for `first` and `first_list`; the same for `second` and `second_list`, with places
+/// in `second`; `Small`.
+///
+/// ```
+/// use crestulbino::{build_index, joined_index, Built, Versions};
+///
+/// let row = b"NJPL1I00DEMO00000003abc";
+/// let (first, second) = (row.repeat(15), row.repeat(3));
+/// let mut list = [7; 3];
+/// let built = joined_index(Versions::One, &first, &[0], &second, &[0], &mut list)?;
+/// assert_eq!(built, Built { entries: 2, rows: 18 });
+/// // The second entry is that of row 16, which is row 1 of the second file.
+/// assert_eq!(list, [0, 345 + 23, 7]);
+///
+/// let mut again = [7; 3];
+/// assert_eq!(build_index(Versions::One, &row.repeat(18), &mut again)?, built);
+/// assert_eq!(again, list);
+/// # Ok::<(), crestulbino::Refused>(())
+/// ```
+#[inline]
+pub fn joined_index(
+    versions: Versions,
+    first: &[u8],
+    first_list: &[u32],
+    second: &[u8],
+    second_list: &[u32],
+    list: &mut [u32],
+) -> Result<Built, Refused> {
+    let (mut entries, mut rows) = (0, 0);
+    let version_2 = versions.version_2();
+    ffi::joined_index(
+        first,
+        first_list,
+        second,
+        second_list,
+        version_2,
+        list,
+        &mut entries,
+        &mut rows,
+    )
+    .result()?;
+    Ok(Built {
+        entries: entries as usize,
+        rows: rows as usize,
+    })
 }
 
 /// Writes an index to the front of `out` as bytes to keep, of kind 1, and answers how many: 6, and

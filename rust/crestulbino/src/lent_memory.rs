@@ -751,6 +751,108 @@ fn check_index() {
     }
 }
 
+/// The call on two files, each with its list, and room for so many entries.
+fn joins(
+    first: (&[u8], &[u32]),
+    second: (&[u8], &[u32]),
+    version_2: bool,
+    size: usize,
+    expected: Result<(Vec<u32>, (u64, u64)), Outcome>,
+) {
+    answers_with("joined_index", size, expected, |list, entries, rows| {
+        ffi::joined_index(
+            first.0, first.1, second.0, second.1, version_2, list, entries, rows,
+        )
+    });
+}
+
+#[test]
+fn joined_index() {
+    const NONE: (&[u8], &[u32]) = (&[], &[]);
+    let one = b"NJPL1I00DEMO00000001x".repeat(33);
+    let two = b"NJPL2I00DEMO\0\0\0\0\0\0\0\x01x".repeat(33);
+    let mixed = [&one[..20 * 21], &two[20 * 21..]].concat();
+    fn rows_of(rows: usize, file: &[u8]) -> (&[u8], &[u32]) {
+        let places = &[0, 336, 672];
+        (&file[..21 * rows], &places[..rows.div_ceil(16)])
+    }
+    for (demo, version_2) in ACCEPTED {
+        let demo = (demo, &[20][..]);
+        let mut flat = vec![&one];
+        if version_2 {
+            flat.extend([&two, &mixed]);
+        }
+        joins(NONE, NONE, version_2, 2, Ok((vec![], (0, 0))));
+        joins(NONE, NONE, version_2, 0, Ok((vec![], (0, 0))));
+        for (first, second, rows) in [(demo, NONE, 2), (NONE, demo, 2), (demo, demo, 4)] {
+            joins(first, second, version_2, 1, Ok((vec![20], (1, rows))));
+            joins(first, second, version_2, 3, Ok((vec![20], (1, rows))));
+            joins(first, second, version_2, 0, Err(refused(8, 0)));
+        }
+        for file in flat {
+            for (first, second, list, rows) in [
+                (rows_of(14, file), demo, vec![0], 16),
+                (rows_of(15, file), demo, vec![0, 315 + 43], 17),
+                (rows_of(16, file), demo, vec![0, 336 + 20], 18),
+                (rows_of(17, file), demo, vec![0, 336], 19),
+                (rows_of(31, file), demo, vec![0, 336, 651 + 43], 33),
+                (rows_of(33, file), NONE, vec![0, 336, 672], 33),
+                (NONE, rows_of(33, file), vec![0, 336, 672], 33),
+                (demo, rows_of(14, file), vec![20], 16),
+                (demo, rows_of(15, file), vec![20, 63 + 294], 17),
+                (demo, rows_of(31, file), vec![20, 63 + 294, 63 + 630], 33),
+            ] {
+                let need = list.len();
+                for room in [need, need + 2] {
+                    let expected = Ok((list.clone(), (need as u64, rows)));
+                    joins(first, second, version_2, room, expected);
+                }
+                for room in [need - 1, 0] {
+                    joins(first, second, version_2, room, Err(refused(8, 0)));
+                }
+            }
+        }
+        // The list of either file comes before the room.
+        for list in [&[][..], &[21], &[20, 20], &[83]] {
+            let wrong = (demo.0, list);
+            for size in [3, 0] {
+                for (first, second) in [(wrong, demo), (demo, wrong), (wrong, wrong), (wrong, NONE)]
+                {
+                    joins(first, second, version_2, size, Err(refused(11, 0)));
+                }
+            }
+        }
+    }
+    // A fault of either file comes before its list, and all of the first file before the second.
+    let late = (MIXED.to_vec(), false, refused(2, 43));
+    for (faulty, version_2, outcome) in refused_files().into_iter().chain([late]) {
+        let demo = (DEMO, &[20][..]);
+        let short = (&b"CCSD1Z00000100000001x"[..], &[20][..]);
+        // The sum is compared before all else.
+        let is_14 = outcome == refused(14, 0);
+        let unless_14 = |other| if is_14 { outcome } else { other };
+        for (list, size) in [(&[][..], 3), (&[20], 3), (&[0], 0)] {
+            let faulty = (&faulty[..], list);
+            joins(faulty, demo, version_2, size, Err(outcome));
+            joins(demo, faulty, version_2, size, Err(outcome));
+            joins(NONE, faulty, version_2, size, Err(outcome));
+            joins(faulty, short, version_2, size, Err(outcome));
+            let of_short = unless_14(refused(1, 20));
+            joins(short, faulty, version_2, size, Err(of_short));
+            let of_list = unless_14(refused(11, 0));
+            joins((DEMO, &[21]), faulty, version_2, size, Err(of_list));
+        }
+    }
+    // Each of the two is small enough.
+    let half = vec![0; 1 << 31];
+    for version_2 in [false, true] {
+        let (whole, less) = ((&half[..], &[][..]), (&half[1..], &[][..]));
+        joins(whole, whole, version_2, 1, Err(refused(14, 0)));
+        joins(whole, less, version_2, 1, Err(refused(2, 0)));
+        joins(less, whole, version_2, 1, Err(refused(2, 0)));
+    }
+}
+
 #[test]
 fn keep_index() {
     let kept = || Ok(vec![6, 0, 0, 0, 1, 0, 20, 0, 0, 0]);

@@ -46,6 +46,20 @@
 //! # Ok::<(), crestulbino::Refused>(())
 //! ```
 //!
+//! Two labelled files can be joined for one roll. Of the joined file the index is had from the two files
+//! and their indexes, before it is written anywhere.
+//!
+//! ```
+//! use crestulbino::{joined_index, Versions};
+//!
+//! let first = b"NJPL1I00DEMO00000003abc".repeat(16);
+//! let second = b"CCSD1Z00000100000043NJPL1I00DEMO00000003abcNJPL1I00DEMO00000000";
+//! let mut list = [0; 2];
+//! let built = joined_index(Versions::One, &first, &[0], second, &[20], &mut list)?;
+//! assert_eq!((built.rows, list), (18, [0, 368 + 20]));
+//! # Ok::<(), crestulbino::Refused>(())
+//! ```
+//!
 //! An index can be kept as bytes. A record of kind 2 has the file's row count too, so that who has the
 //! record knows it without the file.
 //!
@@ -122,8 +136,9 @@ pub use file::{
     Nesting, Row, Rows, Window,
 };
 pub use index::{
-    build_index, check_index, check_kept2, convert_1_to_2, convert_2_to_1, keep_index, load_kept,
-    load_kept2, Built, Kept2, KEPT2_FRONT_BYTES, KEPT_FRONT_BYTES, ROWS_PER_ENTRY,
+    build_index, check_index, check_kept2, convert_1_to_2, convert_2_to_1, joined_index,
+    keep_index, load_kept, load_kept2, Built, Kept2, KEPT2_FRONT_BYTES, KEPT_FRONT_BYTES,
+    ROWS_PER_ENTRY,
 };
 pub use label::{read_label, write_label, Label, Version, Versions, LABEL_BYTES};
 pub use numbers::{opening, sample, vax_d, vax_d_dropped, vax_f, verdict, Opening, Verdict};

@@ -35,7 +35,8 @@ pub enum Refusal {
     Ragged = 12,
     /// These bytes are no kept index of the kind asked for.
     BadKept = 13,
-    /// The file has more than 4,294,967,295 bytes, or the index too many entries to be kept.
+    /// There are more than 4,294,967,295 bytes in the file or in two files joined, or too many entries
+    /// to be kept.
     TooBig = 14,
     /// A version 1 label cannot hold a length of more than 99,999,999 bytes.
     TooLong = 15,
@@ -146,7 +147,7 @@ impl Refusal {
             ),
             Refusal::TooBig => (
                 "TOOBIG",
-                "the file has more than 4,294,967,295 bytes, or the index too many entries to be kept",
+                "there are more than 4,294,967,295 bytes in the file or in two files joined, or too many entries to be kept",
             ),
             Refusal::TooLong => (
                 "TOOLONG",

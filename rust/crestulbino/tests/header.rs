@@ -106,7 +106,7 @@ fn declared_functions() -> Vec<Function> {
 #[test]
 fn declarations_are_those_of_the_header_in_its_order() {
     let header = header_functions();
-    assert_eq!(header.len(), 33);
+    assert_eq!(header.len(), 34);
     assert_eq!(declared_functions(), header);
 }
 
