@@ -10,6 +10,7 @@
 
 pub mod altimeter;
 pub mod bursts;
+pub mod joined;
 pub mod kept;
 pub mod label;
 pub mod labelled;
