@@ -2,7 +2,7 @@
 
 use crate::words::{write_bytes, write_list};
 use crate::{Case, Library};
-use crestulbino::{Beams, Field, Kind, Refused, Row, Source, Verdict};
+use crestulbino::{Beams, Built, Field, Kind, Refused, Row, Source, Verdict};
 use std::fmt::{self, Display};
 
 /// The answer to a line that is no case.
@@ -105,14 +105,25 @@ pub fn answer(library: &Library, case: &Case) -> String {
             list,
             versions,
         } => writes(list, List, |list| {
-            let built = (library.build_index)(*versions, file, list)?;
-            Ok(format!("{} {}", built.entries, built.rows))
+            (library.build_index)(*versions, file, list).map(both_counts)
         }),
         Case::CheckIndex {
             file,
             list,
             versions,
         } => accepted((library.check_index)(*versions, file, list)),
+        Case::JoinedIndex {
+            first,
+            first_list,
+            second,
+            second_list,
+            list,
+            versions,
+        } => writes(list, List, |list| {
+            let joined =
+                (library.joined_index)(*versions, first, first_list, second, second_list, list);
+            joined.map(both_counts)
+        }),
         Case::KeepIndex { list, buffer } => {
             writes(buffer, Bytes, |buffer| (library.keep_index)(list, buffer))
         }
@@ -177,6 +188,10 @@ pub fn answer(library: &Library, case: &Case) -> String {
             None => "ok unnamed".to_string(),
         },
     }
+}
+
+fn both_counts(built: Built) -> String {
+    format!("{} {}", built.entries, built.rows)
 }
 
 fn accepted(answer: Result<(), Refused>) -> String {

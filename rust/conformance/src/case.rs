@@ -83,6 +83,7 @@ cases! {
     "substitute_row" SubstituteRow { original: Vec<u8>, substitute: Vec<u8>, row: usize, versions: Versions }
     "build_index" BuildIndex { file: Vec<u8>, list: Vec<u32>, versions: Versions }
     "check_index" CheckIndex { file: Vec<u8>, list: Vec<u32>, versions: Versions }
+    "joined_index" JoinedIndex { first: Vec<u8>, first_list: Vec<u32>, second: Vec<u8>, second_list: Vec<u32>, list: Vec<u32>, versions: Versions }
     "keep_index" KeepIndex { list: Vec<u32>, buffer: Vec<u8> }
     "load_kept" LoadKept { bytes: Vec<u8>, list: Vec<u32> }
     "load_kept2" LoadKept2 { bytes: Vec<u8>, list: Vec<u32> }
@@ -119,6 +120,8 @@ mod tests {
             "jump_labelled 00 7,4294967295 1 2 3 2",
             "build_index 00 7 1",
             "check_index 00 - 2",
+            "joined_index 00 1,4294967295 01ff 2 3,4 1",
+            "joined_index - - - - - 2",
             "load_kept2 00ff 7,4294967295",
             "convert_1_to_2 00 01 02ff 1",
             "convert_2_to_1 00 -",
@@ -156,6 +159,7 @@ mod tests {
                 format!("substitute_row - - 0 {versions}"),
                 format!("build_index - - {versions}"),
                 format!("check_index - - {versions}"),
+                format!("joined_index - - - - - {versions}"),
                 format!("convert_1_to_2 - - - {versions}"),
                 format!("check_kept2 - - {versions}"),
             ] {
@@ -208,6 +212,10 @@ mod tests {
             ),
             ("write_label 2 0102 12 0304", "write_label 1 - 0 -"),
             ("check_labelled 01 1", "check_labelled - 1"),
+            (
+                "joined_index 01 2,3 0405 6 7,8 2",
+                "joined_index - - - - - 1",
+            ),
             ("load_kept2 0102 3,4", "load_kept2 - -"),
             ("convert_1_to_2 01 02 03 2", "convert_1_to_2 - - - 1"),
             ("convert_2_to_1 0102 03", "convert_2_to_1 - -"),
@@ -256,6 +264,18 @@ mod tests {
         };
         shrunk.shrink(&mut |trial| Some(still(trial))).unwrap();
         assert_eq!(shrunk, case("substitute_row 01 04 0 1"));
+        let mut shrunk = case("joined_index 0102 3,9 0405 6,300 7,8 2");
+        let still = |trial: &Case| match trial {
+            Case::JoinedIndex {
+                first,
+                second_list,
+                list,
+                ..
+            } => first.contains(&2) && second_list.iter().any(|&e| e > 255) && list.len() > 1,
+            _ => false,
+        };
+        shrunk.shrink(&mut |trial| Some(still(trial))).unwrap();
+        assert_eq!(shrunk, case("joined_index 02 - - 256 0,0 1"));
         let mut shrunk = case("row_from bursts:2000 0102 5");
         let still = |trial: &Case| match trial {
             Case::RowFrom { kind, .. } => kind.first_place() >= 7,

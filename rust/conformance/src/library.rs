@@ -19,6 +19,9 @@ pub type JumpLabelled = for<'a> fn(Versions, &'a [u8], &[u32], usize, Window) ->
 /// A row of an original file or of its substitute.
 pub type SubstituteRow = for<'a> fn(Versions, &'a [u8], &'a [u8], usize) -> Answer<Chosen<'a>>;
 
+/// The index of two files set end to end, each lent with its own.
+pub type JoinedIndex = fn(Versions, &[u8], &[u32], &[u8], &[u32], &mut [u32]) -> Answer<Built>;
+
 /// From a file and its kept index of kind 1 to one of kind 2.
 pub type Convert1To2 = fn(Versions, &[u8], &[u8], &mut [u8]) -> Answer<usize>;
 
@@ -36,6 +39,7 @@ pub struct Library {
     pub substitute_row: SubstituteRow,
     pub build_index: fn(Versions, &[u8], &mut [u32]) -> Answer<Built>,
     pub check_index: fn(Versions, &[u8], &[u32]) -> Answer<()>,
+    pub joined_index: JoinedIndex,
     pub keep_index: fn(&[u32], &mut [u8]) -> Answer<usize>,
     pub load_kept: fn(&[u8], &mut [u32]) -> Answer<usize>,
     pub load_kept2: fn(&[u8], &mut [u32]) -> Answer<Kept2>,
@@ -67,6 +71,7 @@ pub const PROVED: Library = Library {
     substitute_row: crestulbino::substitute_row,
     build_index: crestulbino::build_index,
     check_index: crestulbino::check_index,
+    joined_index: crestulbino::joined_index,
     keep_index: crestulbino::keep_index,
     load_kept: crestulbino::load_kept,
     load_kept2: crestulbino::load_kept2,

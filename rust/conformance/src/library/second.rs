@@ -7,7 +7,8 @@ use crestulbino::{
 };
 use independent::refusal::{self, Reason};
 use independent::{
-    altimeter, bursts, kept, label, labelled, orbit, row_index, substitute, vax, waveform, window,
+    altimeter, bursts, joined, kept, label, labelled, orbit, row_index, substitute, vax, waveform,
+    window,
 };
 
 /// The second implementation, written from the documents alone.
@@ -75,15 +76,19 @@ pub const INDEPENDENT: Library = Library {
             row: row_of(choice.part),
         })
     },
-    build_index: |versions, file, list| {
-        let built = row_index::build(taken(versions), file, list).map_err(refused)?;
-        Ok(Built {
-            entries: built.entries as usize,
-            rows: built.rows as usize,
-        })
-    },
+    build_index: |versions, file, list| built(row_index::build(taken(versions), file, list)),
     check_index: |versions, file, list| {
         row_index::check(taken(versions), file, list).map_err(refused)
+    },
+    joined_index: |versions, first, first_list, second, second_list, list| {
+        built(joined::index(
+            taken(versions),
+            first,
+            first_list,
+            second,
+            second_list,
+            list,
+        ))
     },
     keep_index: |list, buffer| count(kept::keep(list, buffer)),
     load_kept: |bytes, list| count(kept::load(bytes, list)),
@@ -165,6 +170,14 @@ pub(crate) fn taken(versions: Versions) -> label::Versions {
 
 fn count(answer: Result<u64, refusal::Refusal>) -> Result<usize, Refused> {
     answer.map(|count| count as usize).map_err(refused)
+}
+
+fn built(answer: Result<row_index::Built, refusal::Refusal>) -> Result<Built, Refused> {
+    let built = answer.map_err(refused)?;
+    Ok(Built {
+        entries: built.entries as usize,
+        rows: built.rows as usize,
+    })
 }
 
 fn part_of_row(window: Window) -> window::Window {
