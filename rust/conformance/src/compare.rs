@@ -102,7 +102,7 @@ fn cut(line: &str) -> String {
 #[cfg(test)]
 mod tests {
     use super::*;
-    use crate::library::{Answer, JumpLabelled, SubstituteRow, INDEPENDENT};
+    use crate::library::{Answer, JoinedIndex, JumpLabelled, SubstituteRow, INDEPENDENT};
     use crestulbino::{Beams, Field, Kind, Nesting, Refusal, Refused, Row, Versions, Window};
 
     fn compared_with(wrong: Library) -> Option<Difference> {
@@ -110,7 +110,7 @@ mod tests {
             left: ("right", &INDEPENDENT),
             right: ("wrong", &wrong),
         };
-        sides.first_difference(2, 10_000, |_| {})
+        sides.first_difference(1, 10_000, |_| {})
     }
 
     #[test]
@@ -291,6 +291,40 @@ mod tests {
             let rows = (INDEPENDENT.check)(Kind::Labelled(*versions), file);
             assert_eq!((rows, *row), (Ok(1), 0), "{found}");
         }
+    }
+
+    /// Refused for the room before the lists: files and lists are made small.
+    #[test]
+    fn files_with_their_lists_are_made_small() {
+        let joined_index: JoinedIndex = |versions, first, one, second, two, list| {
+            let rows = |file| (INDEPENDENT.check)(Kind::Labelled(versions), file);
+            match (rows(first), rows(second)) {
+                (Ok(rows), Ok(more)) if (rows + more).div_ceil(16) > list.len() => Err(Refused {
+                    refusal: Refusal::Small,
+                    place: 0,
+                }),
+                _ => (INDEPENDENT.joined_index)(versions, first, one, second, two, list),
+            }
+        };
+        let found = compared_with(Library {
+            joined_index,
+            ..INDEPENDENT
+        })
+        .unwrap();
+        let Case::JoinedIndex {
+            first,
+            first_list,
+            second,
+            second_list,
+            list,
+            versions,
+        } = &found.case
+        else {
+            panic!("{found}");
+        };
+        let rows = |file| (INDEPENDENT.check)(Kind::Labelled(*versions), file).unwrap();
+        assert_eq!((rows(first) + rows(second), list.len()), (1, 0), "{found}");
+        assert!(first_list.len() + second_list.len() < 2, "{found}");
     }
 
     #[test]

@@ -576,6 +576,37 @@ pub fn with_rows(rows: usize, is_nested: bool, mix: Mix, random: &mut Random) ->
     written(&objects).relabelled(mix, random)
 }
 
+/// A file with a row at this depth that so many rows stand in front of. Right in front of it stands the label
+/// of its group, or another row of it, as far as there is a group.
+pub fn with_row_at_depth(
+    rows_before: usize,
+    depth: usize,
+    is_first: bool,
+    mix: Mix,
+    random: &mut Random,
+) -> LabelledFile {
+    let mut left = rows_before;
+    let mut objects = vec![leaf(random)];
+    for level in (1..=depth).rev() {
+        let here = match level {
+            1 => left,
+            _ if level < depth => random.between(0, left.min(2)),
+            _ if is_first => 0,
+            _ => random.between(left.min(1), left),
+        };
+        left -= here;
+        let mut around: Vec<Object> = (0..here).map(|_| leaf(random)).collect();
+        around.append(&mut objects);
+        let after = random.pick(&[0, 0, 1]);
+        around.extend((0..after).map(|_| leaf(random)));
+        objects = match level {
+            1 => around,
+            _ => vec![group(random, around)],
+        };
+    }
+    written(&objects).relabelled(mix, random)
+}
+
 /// What a labelled file is refused for.
 pub const FAULTS: [Refusal; 5] = [
     Refusal::Short,
@@ -603,6 +634,17 @@ pub fn with_large_entry(mix: Mix, random: &mut Random) -> LabelledFile {
         let (before, after) = (random.between(0, 15), random.between(16, 20));
         let file = written(&large(random, before, after)).relabelled(mix, random);
         if file.index().iter().any(|&entry| entry > 65_536) {
+            return file;
+        }
+    }
+}
+
+/// A file of more than 65,536 bytes whose one entry of an index is not beyond that place.
+pub fn with_large_row(mix: Mix, random: &mut Random) -> LabelledFile {
+    loop {
+        let before = random.between(1, 15);
+        let file = written(&large(random, before, 0)).relabelled(mix, random);
+        if file.bytes.len() > 65_536 {
             return file;
         }
     }

@@ -238,9 +238,9 @@ fn record_of(kind: u16, count: Count, rows: u32, list: &[u32]) -> Vec<u8> {
     }
 }
 
-/// The list of a record, beside the index of its file.
+/// A list, beside the index of its file.
 #[derive(Clone, Copy, Debug, PartialEq, Eq)]
-enum List {
+pub(super) enum List {
     Right,
     /// One entry is more, or less.
     Raised,
@@ -257,7 +257,7 @@ enum List {
     Narrow,
 }
 
-const WRONG_LISTS: [List; 8] = [
+pub(super) const WRONG_LISTS: [List; 8] = [
     List::Raised,
     List::Lowered,
     List::WithoutFirst,
@@ -269,7 +269,7 @@ const WRONG_LISTS: [List; 8] = [
 ];
 
 impl List {
-    fn of(self, file: &LabelledFile, random: &mut Random) -> Vec<u32> {
+    pub(super) fn of(self, file: &LabelledFile, random: &mut Random) -> Vec<u32> {
         let mut list = file.index();
         let last = list.len().saturating_sub(1);
         let at = random.between(0, last);
@@ -336,7 +336,7 @@ enum File {
 }
 
 /// Around the ends of groups of 16 rows.
-const ROWS: [usize; 8] = [0, 1, 15, 16, 17, 31, 32, 33];
+pub(super) const ROWS: [usize; 8] = [0, 1, 15, 16, 17, 31, 32, 33];
 
 /// A call with what is lent to it: each part is a choice, not bytes.
 #[derive(Clone, Copy, Debug, PartialEq, Eq)]

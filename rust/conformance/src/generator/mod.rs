@@ -4,6 +4,7 @@ mod bad_lines;
 mod bursts;
 mod edges;
 pub mod files;
+mod joined;
 pub mod kept;
 pub mod published;
 pub mod random;
@@ -34,6 +35,7 @@ pub struct Generator {
     classed: Deck<Classed>,
     versioned: Deck<(Versioned, Versions)>,
     substitutes: Deck<substitutes::Asked>,
+    joined: Deck<joined::Asked>,
     kept: Deck<kept::Asked>,
     head_harms: Deck<(usize, u8)>,
     written: Deck<Written>,
@@ -100,7 +102,7 @@ type Call = fn(&mut Generator) -> Case;
 
 /// How often each call is asked in a thousand lines. A deck that one of them deals from alone has
 /// no more than ten times as many cards.
-const CALLS: [(usize, Call); 42] = [
+const CALLS: [(usize, Call); 44] = [
     (26, Generator::read_spaces_and_digits),
     (3, Generator::read_binary_text),
     (9, Generator::read_binary_length),
@@ -109,18 +111,20 @@ const CALLS: [(usize, Call); 42] = [
     (17, Generator::write_label),
     (13, Generator::write_harmed_head),
     (5, Generator::write_any_head),
-    (22, Generator::check_labelled),
+    (18, Generator::check_labelled),
     (4, Generator::check_waveform),
-    (25, Generator::read_row_labelled),
-    (7, Generator::read_row_waveform),
-    (33, Generator::jump_labelled),
-    (7, Generator::jump_waveform),
-    (21, Generator::row_from_labelled),
+    (21, Generator::read_row_labelled),
+    (6, Generator::read_row_waveform),
+    (28, Generator::jump_labelled),
+    (6, Generator::jump_waveform),
+    (18, Generator::row_from_labelled),
     (7, Generator::row_from_waveform),
     (6, Generator::substitute_row),
     (29, Generator::substitute_edge),
-    (21, Generator::build_index),
-    (21, Generator::check_index),
+    (17, Generator::build_index),
+    (17, Generator::check_index),
+    (5, Generator::joined_index),
+    (26, Generator::joined_edge),
     (73, Generator::last_object),
     (74, Generator::binary_object),
     (42, Generator::classed),
@@ -129,10 +133,10 @@ const CALLS: [(usize, Call); 42] = [
     (13, Generator::kept_record),
     (42, Generator::kept_edge),
     (26, Generator::sample),
-    (9, Generator::vax_f),
-    (12, Generator::vax_d),
+    (8, Generator::vax_f),
+    (10, Generator::vax_d),
     (35, Generator::vax_d_rounded),
-    (11, Generator::opening),
+    (9, Generator::opening),
     (57, Generator::verdict_at_limit),
     (5, Generator::verdict),
     (12, Generator::verdict_unknown),
@@ -203,6 +207,7 @@ impl Generator {
             classed: Deck::new(files::classed()),
             versioned: Deck::new(told_each(&files::versioned())),
             substitutes: Deck::new(substitutes::asked()),
+            joined: Deck::new(joined::asked()),
             kept: Deck::new(kept::asked()),
             head_harms: Deck::new(odd_bytes(12)),
             written: Deck::new(written()),
@@ -222,7 +227,7 @@ impl Generator {
     }
 
     fn bad_line(&mut self) -> String {
-        if self.random.chance(70) {
+        if self.random.chance(80) {
             return self.bad_lines.deal(&mut self.random).to_string();
         }
         let call = self.random.pick(&SPOILT_CALLS);
@@ -577,13 +582,16 @@ impl Generator {
         }
     }
 
-    /// With its kept index, as an original, or as a substitute.
+    /// With its kept index, as an original, as a substitute, or joined with another.
     fn with_another_at(&mut self, file: LabelledFile, place: usize, versions: Versions) -> Case {
-        if self.random.chance(60) {
-            return kept::of_file(file, versions, &mut self.random);
+        match self.random.between(0, 9) {
+            0..=4 => kept::of_file(file, versions, &mut self.random),
+            5..=7 => {
+                let (row, _) = self.row_at(&file, place);
+                substitutes::of_file(file, row, versions, &mut self.random)
+            }
+            _ => joined::of_file(file, versions, &mut self.random),
         }
-        let (row, _) = self.row_at(&file, place);
-        substitutes::of_file(file, row, versions, &mut self.random)
     }
 
     /// The first row from a place on, at times the next one, and a window that mostly fits it.
@@ -606,6 +614,15 @@ impl Generator {
 
     fn substitute_edge(&mut self) -> Case {
         let asked = self.substitutes.deal(&mut self.random);
+        asked.case(&mut self.random)
+    }
+
+    fn joined_index(&mut self) -> Case {
+        joined::any(&mut self.random)
+    }
+
+    fn joined_edge(&mut self) -> Case {
+        let asked = self.joined.deal(&mut self.random);
         asked.case(&mut self.random)
     }
 
@@ -1089,7 +1106,8 @@ mod tests {
             ["row_from", told, ..] if told.starts_with("bursts:") => "row_from bursts".to_string(),
             [call @ ("row_from" | "write_label"), told, ..]
             | [call @ ("read_label" | "build_index" | "check_index"), .., told]
-            | [call @ ("substitute_row" | "convert_1_to_2" | "check_kept2"), .., told] => {
+            | [call @ ("substitute_row" | "joined_index"), .., told]
+            | [call @ ("convert_1_to_2" | "check_kept2"), .., told] => {
                 format!("{call} {told}")
             }
             [call, .., told] if call.ends_with("_labelled") => format!("{call} {told}"),
@@ -1141,6 +1159,7 @@ mod tests {
             assert!(generator.classed.is_through());
             assert!(generator.versioned.is_through());
             assert!(generator.substitutes.is_through());
+            assert!(generator.joined.is_through());
             assert!(generator.kept.is_through());
             assert!(generator.head_harms.is_through());
             assert!(generator.written.is_through());
@@ -1174,7 +1193,7 @@ mod tests {
             };
             *seen.entry((call, kind)).or_default() += 1;
         }
-        let labelled: [(&str, &[&str]); 10] = [
+        let labelled: [(&str, &[&str]); 11] = [
             ("read_label ", &["ok", "1", "2", "3"]),
             ("check_labelled ", &["ok", "1", "2", "3", "4", "5"]),
             (
@@ -1189,6 +1208,7 @@ mod tests {
             ("substitute_row ", &["ok", "1", "2", "3", "4", "5", "6"]),
             ("build_index ", &["ok", "1", "2", "3", "4", "5", "8"]),
             ("check_index ", &["ok", "1", "2", "3", "4", "5", "11"]),
+            ("joined_index ", &["ok", "1", "2", "3", "4", "5", "11", "8"]),
             (
                 "convert_1_to_2 ",
                 &["ok", "1", "2", "3", "4", "5", "13", "11", "8"],
@@ -1237,7 +1257,7 @@ mod tests {
     }
 
     /// The labelled files that the call of a case looks at, and what it is told of them. An original is
-    /// not looked at where its substitute serves.
+    /// not looked at where its substitute serves, nor a second file where a first one is refused.
     fn labelled_files_of(case: Case) -> (Vec<Vec<u8>>, Versions) {
         match case {
             Case::SubstituteRow {
@@ -1252,6 +1272,16 @@ mod tests {
                     Err(_) => (vec![substitute, original], versions),
                 }
             }
+            Case::JoinedIndex {
+                first,
+                first_list,
+                second,
+                versions,
+                ..
+            } => match (INDEPENDENT.check_index)(versions, &first, &first_list) {
+                Ok(()) => (vec![first, second], versions),
+                Err(_) => (vec![first], versions),
+            },
             Case::CheckLabelled { file, versions }
             | Case::ReadRowLabelled { file, versions, .. }
             | Case::JumpLabelled { file, versions, .. }
