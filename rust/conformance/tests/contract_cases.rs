@@ -42,6 +42,7 @@ fn case_1_the_empty_file() {
     told("check_index - -", "ok");
     told("jump_labelled - - 0 0 0", "ref 6 0");
     told("substitute_row - - 0", "ref 6 0");
+    told("joined_index - - - - -", "ok 0 0 -");
 }
 
 #[test]
@@ -51,6 +52,8 @@ fn case_2_nineteen_zero_bytes() {
     told(&format!("read_row_labelled {file} 0 0 0"), "ref 1 0");
     told(&format!("substitute_row {file} - 0"), "ref 1 0");
     told(&format!("substitute_row - {file} 0"), "ref 6 0");
+    told(&format!("joined_index {file} - - - -"), "ref 1 0 -");
+    told(&format!("joined_index - - {file} - -"), "ref 1 0 -");
 }
 
 #[test]
@@ -80,6 +83,13 @@ fn case_3_the_demonstration_file() {
     );
     told(&format!("build_index {file} 7,8"), "ok 1 2 20,8");
     told(&format!("check_index {file} 20"), "ok");
+    told(
+        &format!("joined_index {file} 20 {file} 20 7,8"),
+        "ok 1 4 20,8",
+    );
+    told(&format!("joined_index {file} 20 - - 7"), "ok 1 2 20");
+    told(&format!("joined_index - - {file} 20 7"), "ok 1 2 20");
+    told(&format!("joined_index {file} 20 {file} 83 7"), "ref 11 0 7");
     let label = hex(&DEMO[20..40]);
     told(
         &format!("read_label {label}"),
@@ -91,6 +101,9 @@ fn case_3_the_demonstration_file() {
 fn case_4_the_outer_length_one_less() {
     let file = hex(DEMO.replace("00000043", "00000042"));
     told(&format!("check_labelled {file}"), "ref 1 43");
+    let good = hex(DEMO);
+    let joined = format!("joined_index {good} 20 {file} 20 7");
+    told(&joined, "ref 1 43 7");
 }
 
 #[test]
