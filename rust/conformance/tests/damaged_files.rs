@@ -1,7 +1,7 @@
 //! Every single-byte damage of nested files with groups of all classes, with and without spaces in
 //! their lengths, with labels of version 1, of version 2 and of both: both implementations, told each
-//! choice, say the same of the check, of each row read, also beside another file, of the index, kept or
-//! not, of each jump and of going on from each label.
+//! choice, say the same of the check, of each row read, also beside another file, of the index, kept,
+//! joined or not, of each jump and of going on from each label.
 
 use conformance::generator::kept::record;
 use conformance::library::{INDEPENDENT, PROVED};
@@ -33,8 +33,13 @@ fn two_entries_file() -> Vec<u8> {
     file.concat().into_bytes()
 }
 
-/// A file of two rows, to stand in place of another one or to be replaced by it.
+/// A file of two rows, to stand in place of another one, to be replaced by it or to be joined with it.
 const OTHER: &[u8] = b"NJPL1I00DEMO00000003abcNJPL1I00DEMO00000000";
+
+/// A file and its index, of which the rows do not fill their last group of 16.
+fn fifteen_rows() -> (Vec<u8>, [u32; 1]) {
+    (group('Z', &vec![leaf(""); 15]).into_bytes(), [20])
+}
 
 /// Where labels begin, in values too.
 fn labels(file: &[u8]) -> Vec<usize> {
@@ -95,6 +100,32 @@ fn assert_same(versions: Versions, file: &[u8], rows: usize, index: &[u32], plac
             (one.check_kept2)(versions, file, &kept),
             (other.check_kept2)(versions, file, &kept)
         );
+    }
+    let (fifteen, list) = fifteen_rows();
+    let others = [(OTHER, &[0][..]), (&fifteen, &list)];
+    for (other_file, other_list) in others {
+        for list in [index, own] {
+            for ((first, first_list), (second, second_list)) in [
+                ((file, list), (other_file, other_list)),
+                ((other_file, other_list), (file, list)),
+                ((file, list), (file, list)),
+            ] {
+                let mut lists = [[7; 5]; 2];
+                let [joined, other_joined] = &mut lists;
+                assert_eq!(
+                    (one.joined_index)(versions, first, first_list, second, second_list, joined),
+                    (other.joined_index)(
+                        versions,
+                        first,
+                        first_list,
+                        second,
+                        second_list,
+                        other_joined
+                    )
+                );
+                assert_eq!(lists[0], lists[1]);
+            }
+        }
     }
     for row in 0..=rows {
         let window = Window::new(0, row % 3);

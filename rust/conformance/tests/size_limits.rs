@@ -7,8 +7,8 @@ use conformance::generator::kept::record;
 use conformance::library::{INDEPENDENT, PROVED};
 use conformance::Library;
 use crestulbino::{
-    Chosen, Field, Kept2, Kind, Refusal, Refused, Row, Source, Text, Verdict, Version, Versions,
-    Window,
+    Built, Chosen, Field, Kept2, Kind, Refusal, Refused, Row, Source, Text, Verdict, Version,
+    Versions, Window,
 };
 
 const BOTH: [Library; 2] = [INDEPENDENT, PROVED];
@@ -237,6 +237,10 @@ fn one_byte_more_than_a_file_may_have() {
         assert_eq!(list, [7; 4]);
         let checked = (library.check_index)(versions, &file, &[0]);
         assert_eq!(checked, refused(Refusal::TooBig));
+        for (first, second) in [(&file[..], &[][..]), (&[], &file)] {
+            let joined = (library.joined_index)(versions, first, &[], second, &[], &mut list);
+            assert_eq!((joined, list), (refused(Refusal::TooBig), [7; 4]));
+        }
         // Whatever the kept index and the room.
         for kept in [record(1, &[0]), record(2, &[1, 0]), record(1, &[]), vec![]] {
             for size in [14, 10, 0] {
@@ -319,6 +323,141 @@ fn one_byte_more_than_an_original_or_a_substitute_may_have() {
                 assert_eq!(row(faulty, big, number), refused(Refusal::Overrun));
                 assert_eq!(row(&[], big, number), refused(Refusal::NoRow));
             }
+        }
+    }
+}
+
+/// What a call of the joined index comes to, with the list that was lent, of which the last is left alone.
+fn join(
+    library: &Library,
+    versions: Versions,
+    first: (&[u8], &[u32]),
+    second: (&[u8], &[u32]),
+) -> Result<(Built, Vec<u32>), Refused> {
+    let mut list = vec![7; 8];
+    let built = (library.joined_index)(versions, first.0, first.1, second.0, second.1, &mut list);
+    let written = built.map_or(0, |built| built.entries);
+    assert_eq!(list.split_off(written), vec![7; 8 - written]);
+    built.map(|built| (built, list))
+}
+
+/// The largest joined file: the one file nearly all of it, either way round, and both half of it.
+#[test]
+fn the_largest_joined_files() {
+    let most = labelled(MOST);
+    let index = [0, 1_600_000_304, 3_200_000_608];
+    let small = (SMALL, &[0][..]);
+    let (less, least) = (labelled(MOST - SMALL.len()), MOST - SMALL.len());
+    let half = labelled(MOST / 2);
+    assert_eq!(half.len() + half.len() + 1, MOST);
+    // Of 22 rows, the last one short.
+    let half_index = [0, 1_600_000_304];
+    for (library, versions) in told() {
+        let kind = Kind::Labelled(versions);
+        let rows = 43;
+        let whole = Ok((Built { entries: 3, rows }, index.to_vec()));
+        let none = (&[][..], &[][..]);
+        assert_eq!(join(&library, versions, (&most, &index), none), whole);
+        assert_eq!(join(&library, versions, none, (&most, &index)), whole);
+
+        assert_eq!((library.check)(kind, &less), Ok(43));
+        let rows = 44;
+        let joined = join(&library, versions, (&less, &index), small);
+        assert_eq!(joined, Ok((Built { entries: 3, rows }, index.to_vec())));
+        // Behind the small one, 15 rows of the large one fill the group.
+        let joined = join(&library, versions, small, (&less, &index));
+        let before = [15, 31].map(|row| (23 + row * (20 + LONGEST_VALUE)) as u32);
+        let list = vec![0, before[0], before[1]];
+        assert_eq!(joined, Ok((Built { entries: 3, rows }, list)));
+        assert_eq!(least + SMALL.len(), MOST);
+
+        assert_eq!((library.check)(kind, &half), Ok(22));
+        let both = (&half[..], &half_index[..]);
+        let joined = join(&library, versions, both, both);
+        let second = (half.len() + 10 * (20 + LONGEST_VALUE)) as u32;
+        let list = vec![0, 1_600_000_304, second];
+        let rows = 44;
+        assert_eq!(joined, Ok((Built { entries: 3, rows }, list)));
+        let wrong = (&half[..], &half_index[..1]);
+        let joined = join(&library, versions, both, wrong);
+        assert_eq!(joined, refused(Refusal::BadIndex));
+    }
+    // A row that ends where the largest joined file ends, whose length needs more than eight digits.
+    let in_version_2 = one_row(least, 0);
+    for library in BOTH {
+        let large = (&in_version_2[..], &[0][..]);
+        let joined = join(&library, Versions::OneAndTwo, small, large);
+        let (entries, rows) = (1, 2);
+        assert_eq!(joined, Ok((Built { entries, rows }, vec![0])));
+        let many = SMALL.repeat(16);
+        let less = &one_row(MOST - many.len(), 1);
+        let joined = join(&library, Versions::OneAndTwo, (&many, &[0]), (less, &[20]));
+        let (entries, rows) = (2, 17);
+        let list = vec![0, many.len() as u32 + 20];
+        assert_eq!(joined, Ok((Built { entries, rows }, list)));
+        let joined = join(&library, Versions::One, (&many, &[0]), (less, &[20]));
+        assert_eq!(joined, refused(Refusal::BadLabel));
+    }
+}
+
+/// Only the sum of the two sizes is compared, before all else; in 32 bits some of these sums are small.
+#[test]
+fn more_bytes_than_a_joined_file_may_have() {
+    let (most, big) = (labelled(MOST), vec![0; 2 * (MOST + 1)]);
+    let index = [0, 1_600_000_304, 3_200_000_608];
+    let small = (SMALL, &[0][..]);
+    let faulty = (&b"NJPL1I00DEMO00000004abc"[..], &[0][..]);
+    let none = (&[][..], &[][..]);
+    let most = (&most[..], &index[..]);
+    let zeros = |size: usize| (&big[..size], &[][..]);
+    for (library, versions) in told() {
+        for (first, second) in [
+            // Either file is one that is accepted, with its index.
+            (most, small),
+            (small, most),
+            (most, most),
+            // By a byte, which no label has.
+            (most, zeros(1)),
+            (zeros(1), most),
+            (zeros(MOST), zeros(1)),
+            (zeros(1 << 31), zeros(1 << 31)),
+            (zeros((1 << 31) - 1), zeros((1 << 31) + 1)),
+            // One file is too long by itself.
+            (zeros(MOST + 1), none),
+            (none, zeros(MOST + 1)),
+            (zeros(MOST + 1), small),
+            (small, zeros(MOST + 1)),
+            // The sum turns to one that is small: 0, 22, 2^32 - 2.
+            (zeros(MOST + 1), zeros(MOST + 1)),
+            (zeros(2 * (MOST + 1)), none),
+            (zeros(MOST), faulty),
+            (zeros(MOST), zeros(MOST)),
+            // Before a fault of the first file, and before its list.
+            (faulty, most),
+            (faulty, zeros(MOST + 1)),
+            ((SMALL, &[]), most),
+            ((SMALL, &[1]), zeros(MOST)),
+        ] {
+            let joined = join(&library, versions, first, second);
+            assert_eq!(joined, refused(Refusal::TooBig));
+            // Before there is no room.
+            let joined =
+                (library.joined_index)(versions, first.0, first.1, second.0, second.1, &mut []);
+            assert_eq!(joined, refused(Refusal::TooBig));
+        }
+        // As much as there may be: what is next is the first file's fault, then the second's.
+        for (first, second, refusal) in [
+            (zeros(MOST), none, Refusal::BadLabel),
+            (none, zeros(MOST), Refusal::BadLabel),
+            (zeros(1), zeros(MOST - 1), Refusal::Short),
+            (zeros(MOST - 1), zeros(1), Refusal::BadLabel),
+            (small, zeros(MOST - SMALL.len()), Refusal::BadLabel),
+            (faulty, zeros(MOST - SMALL.len()), Refusal::Overrun),
+            ((SMALL, &[]), zeros(MOST - SMALL.len()), Refusal::BadIndex),
+            (zeros(1 << 31), zeros((1 << 31) - 1), Refusal::BadLabel),
+        ] {
+            let joined = join(&library, versions, first, second);
+            assert_eq!(joined, refused(refusal));
         }
     }
 }
