@@ -96,3 +96,11 @@ fn stored_answers_of_originals_and_substitutes() {
         include_str!("data/substitute.answers"),
     );
 }
+
+#[test]
+fn stored_answers_of_joined_indexes() {
+    same(
+        include_str!("data/joined.cases"),
+        include_str!("data/joined.answers"),
+    );
+}
