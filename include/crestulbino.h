@@ -341,7 +341,7 @@ crest_result crest_check_index(const uint8_t *file, size_t file_len, bool versio
 /*
  * joined::join_index. Writes the index of two files set end to end, the bytes of first and then those of second, from the files and
  * their indexes; no joined file is built. Its rows are those of first and then those of second, whose places grow by first_len.
- * version_2 holds for both files. Each of them is gone through twice.
+ * version_2 holds for both files.
  * Refuses: TOOBIG where first_len and second_len come to more than 4,294,967,295, whatever the files are; then as crest_check_index
  * for first and first_list; the same for second and second_list, with places in second; SMALL.
  * Writes: the first entries numbers of list; entries and rows, how many of each the joined file has.

@@ -107,6 +107,7 @@ fn labelled_calls(of: &str, versions: Versions, file: &[u8], rows: &[usize]) {
         || usize::from(plain::check_index(black_box(file), version_2, list).is_ok()),
     );
     kept_with_file(of, versions, file, list);
+    joined_files(of, versions, file, list);
     compare(
         &format!("jump_labelled{of}, a jump"),
         rows.len(),
@@ -128,6 +129,69 @@ fn labelled_calls(of: &str, versions: Versions, file: &[u8], rows: &[usize]) {
         versions,
         file,
     );
+}
+
+/// Two files joined, of which the rows of the first fill their last entry, or go 1 or 15 rows into another;
+/// and the index of a joined copy, without the copying and with it.
+fn joined_files(of: &str, versions: Versions, file: &[u8], list: &[u32]) {
+    let version_2 = version_2(versions);
+    let (mut one, mut other) = (vec![1; ROWS], vec![1; ROWS]);
+    for (how, over) in [
+        ("15 rows into an entry, ", 15),
+        ("1 row into an entry, ", 1),
+        ("", 0),
+    ] {
+        let first = [file, &b"NJPL1I00DEMO00000000".repeat(over)].concat();
+        let mut first_list = list.to_vec();
+        if over > 0 {
+            first_list.push(file.len() as u32);
+        }
+        compare(
+            &format!("joined_index{of}, {how}a row of both"),
+            2 * ROWS + over,
+            || {
+                let (first, second) = (black_box(&first), black_box(file));
+                let built =
+                    crestulbino::joined_index(versions, first, &first_list, second, list, &mut one);
+                built.map_or(0, |built| built.entries + built.rows)
+            },
+            || {
+                let first = (black_box(&first[..]), &first_list[..]);
+                let second = (black_box(file), list);
+                let built = plain::joined_index(first, second, version_2, &mut other);
+                built.map_or(0, |(entries, rows)| entries + rows)
+            },
+        );
+        assert_eq!(one, other, "the two joined indexes");
+    }
+    let (joined, copy) = (one.clone(), file.repeat(2));
+    compare(
+        &format!("build_index{of} of a joined copy, a row of both"),
+        2 * ROWS,
+        || {
+            let built = crestulbino::build_index(versions, black_box(&copy), &mut one);
+            built.map_or(0, |built| built.entries + built.rows)
+        },
+        || {
+            let built = plain::build_index(black_box(&copy), version_2, &mut other);
+            built.map_or(0, |(entries, rows)| entries + rows)
+        },
+    );
+    compare(
+        &format!("build_index{of} of a joined copy, with the copying, a row of both"),
+        2 * ROWS,
+        || {
+            let copy = [black_box(file), black_box(file)].concat();
+            let built = crestulbino::build_index(versions, &copy, &mut one);
+            built.map_or(0, |built| built.entries + built.rows)
+        },
+        || {
+            let copy = [black_box(file), black_box(file)].concat();
+            let built = plain::build_index(&copy, version_2, &mut other);
+            built.map_or(0, |(entries, rows)| entries + rows)
+        },
+    );
+    assert_eq!([&one, &other], [&joined; 2], "the indexes of the copy");
 }
 
 /// The calls on a file and its kept index, beside plain Rust in the same two passes and in one.

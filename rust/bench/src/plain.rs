@@ -254,6 +254,12 @@ pub fn build_index(
 /// Accepts exactly the index of an accepted file.
 #[inline(never)]
 pub fn check_index(file: &[u8], version_2: bool, list: &[u32]) -> Result<(), Fault> {
+    rows_indexed(file, version_2, list).map(|_| ())
+}
+
+/// How many rows an accepted file has whose whole index this is: the check, and then the entries.
+#[inline(always)]
+fn rows_indexed(file: &[u8], version_2: bool, list: &[u32]) -> Result<usize, Fault> {
     let rows = check(file, version_2)?;
     let is_index = list.len() == rows.div_ceil(ROWS_PER_ENTRY)
         && list
@@ -261,10 +267,47 @@ pub fn check_index(file: &[u8], version_2: bool, list: &[u32]) -> Result<(), Fau
             .zip(entries(file, version_2))
             .all(|(&entry, place)| place == Ok(entry));
     if is_index {
-        Ok(())
+        Ok(rows)
     } else {
         Err((11, 0))
     }
+}
+
+/// A file with its index.
+pub type Listed<'a> = (&'a [u8], &'a [u32]);
+
+/// Writes the index of two files set end to end, and answers how many entries and rows it has. Each file is
+/// passed twice for its list. Where the list of the second does not have the entries, they are so many rows
+/// on from those that it has.
+#[inline(never)]
+pub fn joined_index(
+    first: Listed<'_>,
+    second: Listed<'_>,
+    version_2: bool,
+    list: &mut [u32],
+) -> Result<(usize, usize), Fault> {
+    let length = first.0.len();
+    if length + second.0.len() > MOST {
+        return Err((14, 0));
+    }
+    let before = rows_indexed(first.0, version_2, first.1)?;
+    let rows = before + rows_indexed(second.0, version_2, second.1)?;
+    let count = rows.div_ceil(ROWS_PER_ENTRY);
+    let list = list.get_mut(..count).ok_or((8, 0))?;
+    let (own, others) = list.split_at_mut(first.1.len());
+    own.copy_from_slice(first.1);
+    let on = before.next_multiple_of(ROWS_PER_ENTRY) - before;
+    for (slot, &entry) in others.iter_mut().zip(second.1) {
+        let label = match on {
+            0 => entry as usize,
+            _ => {
+                let mut leaves = leaves(second.0, version_2, entry as usize);
+                leaves.nth(on).ok_or((6, 0))??.label
+            }
+        };
+        *slot = (length + label) as u32;
+    }
+    Ok((count, rows))
 }
 
 /// The bytes of a kept index in front of its entries, of kind 1 and of kind 2.

@@ -81,7 +81,8 @@ pub fn check_index(versions: Versions, file: &[u8], list: &[u32]) -> Result<(), 
 ///
 /// Its rows are those of `first` and then those of `second`, whose places grow by the length of
 /// `first`; where the rows of `first` do not fill their last group of 16, `second` fills it. Each file
-/// is gone through twice, so that the time grows with the sum of their sizes.
+/// is gone through twice; where `second` fills a group, the labels of up to 15 in 16 of its rows are
+/// passed once more. Nothing is copied.
 ///
 /// Refuses: `TooBig` where the two lengths come to more than 4,294,967,295, whatever the files are; as
 /// [`check_index`] for `first` and `first_list`; the same for `second` and `second_list`, with places
