@@ -474,7 +474,7 @@ mod tests {
     use crate::generator::Generator;
     use crate::library::{taken, INDEPENDENT};
     use crate::{answer, Library};
-    use independent::labelled;
+    use independent::{label, labelled};
     use std::collections::HashSet;
 
     const LIBRARY: Library = INDEPENDENT;
@@ -542,45 +542,58 @@ mod tests {
             }
         }
 
-        /// How a wrong list differs from the index.
-        fn wrong_list(&self, other: &Lent, length: usize) -> Vec<&'static str> {
+        /// Whether a wrong list differs from the index in this way.
+        fn is_wrong_in(&self, words: &str, other: &Lent, length: usize) -> bool {
             let (list, index) = (&self.list, self.index());
             let differ = list.iter().zip(&index).filter(|(one, other)| one != other);
-            let exchanged = [list.len().wrapping_sub(1), 0].map(|at| list.get(at).copied());
-            let ends = [0, index.len().wrapping_sub(1)].map(|at| index.get(at).copied());
-            let known = [
-                (
-                    list.len() == index.len() && differ.count() == 1,
-                    "an entry off",
-                ),
-                (
-                    list.starts_with(&index) && list.len() == index.len() + 1,
-                    "one too many",
-                ),
-                (
-                    !list.is_empty() && index.ends_with(list),
-                    "the first missing",
-                ),
-                (
-                    !list.is_empty() && index.starts_with(list),
-                    "the last missing",
-                ),
-                (index.len() > 1 && exchanged == ends, "exchanged"),
-                (list.is_empty(), "none"),
-                (*list == other.index(), "that of the other"),
-                (
-                    list.iter()
-                        .map(|entry| entry.wrapping_sub(length as u32))
-                        .eq(index.clone()),
-                    "shifted",
-                ),
-            ];
-            known
-                .into_iter()
-                .filter(|known| known.0)
-                .map(|known| known.1)
-                .collect()
+            match words {
+                "an entry off" => list.len() == index.len() && differ.count() == 1,
+                "one too many" => list.len() == index.len() + 1 && list.starts_with(&index),
+                "the first missing" => !list.is_empty() && index.ends_with(list),
+                "the last missing" => !list.is_empty() && index.starts_with(list),
+                "exchanged" => {
+                    let mut again = list.clone();
+                    if let [one, .., other] = &mut again[..] {
+                        std::mem::swap(one, other);
+                    }
+                    again == index
+                }
+                "none" => list.is_empty(),
+                "that of the other" => *list == other.index(),
+                "shifted" => {
+                    let shifted = index.iter().map(|entry| entry + length as u32);
+                    shifted.eq(list.iter().copied())
+                }
+                _ => *list == old_index(&self.file),
+            }
         }
+    }
+
+    /// The words for wrong lists; the last ones are those of the time when class Z alone was opened.
+    const WRONG_IN: [&str; 9] = [
+        "an entry off",
+        "one too many",
+        "the first missing",
+        "the last missing",
+        "exchanged",
+        "none",
+        "that of the other",
+        "shifted",
+        "old",
+    ];
+
+    /// The index that an accepted file had while class Z alone was opened.
+    fn old_index(file: &[u8]) -> Vec<u32> {
+        let (mut places, mut place) = (Vec::new(), 0);
+        while place < file.len() {
+            let label = label::read(label::Versions::Both, &file[place..]).expect("a label");
+            if label.class != b'Z' {
+                places.push(place as u32);
+                place += label.length as usize;
+            }
+            place += 20;
+        }
+        places.into_iter().step_by(16).collect()
     }
 
     fn rows_of(file: &[u8], versions: Versions) -> Result<Vec<Row>, (&'static str, usize)> {
@@ -636,18 +649,18 @@ mod tests {
                 seen.push(format!("{reason} fault at another place"));
             }
         }
-        if first.rows.is_ok() && states[0] == "wrong" {
-            let words = first.wrong_list(second, first.file.len());
-            seen.extend(words.iter().map(|words| format!("first list {words}")));
-        }
-        if second.rows.is_ok() && states[1] == "wrong" {
-            let words = second.wrong_list(first, first.file.len());
-            let which = if states[0] == "wrong" {
-                "both"
-            } else {
-                "second"
+        for words in WRONG_IN {
+            let length = first.file.len();
+            let is_wrong = [(first, second), (second, first)].map(|(one, other)| {
+                one.state() == "wrong" && one.is_wrong_in(words, other, length)
+            });
+            let which = match (states, is_wrong) {
+                ([_, "right"], [true, _]) => "first",
+                (["right", _], [_, true]) => "second",
+                (_, [true, true]) => "both",
+                _ => continue,
             };
-            seen.extend(words.iter().map(|words| format!("{which} list {words}")));
+            seen.push(format!("{which} list {words}"));
         }
         let has_2 = [first, second].map(|lent| {
             let of_one = rows_of(&lent.file, Versions::One).is_err();
@@ -743,16 +756,7 @@ mod tests {
         for reason in ["same", "other"] {
             words.push(format!("{reason} fault at another place"));
         }
-        for list in [
-            "an entry off",
-            "one too many",
-            "the first missing",
-            "the last missing",
-            "exchanged",
-            "none",
-            "that of the other",
-            "shifted",
-        ] {
+        for list in WRONG_IN {
             words.extend(["first", "second", "both"].map(|of| format!("{of} list {list}")));
         }
         for entries in ["fewer", "as many"] {
