@@ -85,12 +85,13 @@ fn is_in_binary_length(file: &[u8], place: usize) -> bool {
     fronts.any(|front| matches!(front, b"NJPL2" | b"CCSD2"))
 }
 
-/// A file of one row, in place of which another one is lent, or which is lent in its place.
+/// A file of one row, in place of which another one is lent, or which is lent in its place or joined with it.
 const OTHER: &[u8] = b"NJPL1I00DEMO00000003abc";
+const INDEX: &[u32] = &[0];
 
-/// What a library says of a file: its rows, its index, each row read, jumped to and shown beside another
-/// file, and the first row from each place, with every refusal and every place, but without the bytes
-/// themselves.
+/// What a library says of a file: its rows, its index, alone and joined, each row read, jumped to and shown
+/// beside another file, and the first row from each place, with every refusal and every place, but without
+/// the bytes themselves.
 fn all_answers(library: &Library, versions: Versions, file: &[u8], list: &[u32]) -> String {
     let kind = Kind::Labelled(versions);
     let mut built = [7; 8];
@@ -103,6 +104,15 @@ fn all_answers(library: &Library, versions: Versions, file: &[u8], list: &[u32])
     let kept = record(2, &[&[checked.unwrap_or(2) as u32], list].concat());
     let accepted = (library.check_kept2)(versions, file, &kept);
     answers += &format!(" {converted:?} {buffer:?} {accepted:?}");
+    for (first, second) in [
+        ((file, list), (OTHER, INDEX)),
+        ((OTHER, INDEX), (file, list)),
+    ] {
+        let mut joined = [7; 8];
+        let built =
+            (library.joined_index)(versions, first.0, first.1, second.0, second.1, &mut joined);
+        answers += &format!(" {built:?} {joined:?}");
+    }
     for row in 0..=checked.unwrap_or(2) {
         let window = Window::new(0, row % 3);
         let read = (library.read_row)(kind, file, row, window);

@@ -160,6 +160,9 @@ fn rewritten(file: &[u8], random: &mut Random) -> Vec<u8> {
     file
 }
 
+/// A file of one row with its index, to be joined with another.
+const OTHER: (&[u8], &[u32]) = (b"NJPL1I00DEMO00000003abc", &[0]);
+
 /// What a library says of a file: an answer for each call, with every refusal and every place, but
 /// without the bytes themselves.
 fn all_answers(library: &Library, versions: Versions, file: &[u8], list: &[u32]) -> Vec<Answer> {
@@ -177,6 +180,12 @@ fn all_answers(library: &Library, versions: Versions, file: &[u8], list: &[u32])
         answer(converted.map(|written| (written, buffer))),
         answer((library.check_kept2)(versions, file, &kept)),
     ];
+    for (first, second) in [((file, list), OTHER), (OTHER, (file, list))] {
+        let mut joined = [7; 8];
+        let built =
+            (library.joined_index)(versions, first.0, first.1, second.0, second.1, &mut joined);
+        answers.push(answer(built.map(|built| (built, joined))));
+    }
     // As many whatever is told, so that the answers can be set side by side.
     for row in (0..20).chain([31, 32, 33]) {
         let window = Window::new(0, row % 3);
