@@ -347,7 +347,8 @@ fn the_largest_joined_files() {
     let most = labelled(MOST);
     let index = [0, 1_600_000_304, 3_200_000_608];
     let small = (SMALL, &[0][..]);
-    let (less, least) = (labelled(MOST - SMALL.len()), MOST - SMALL.len());
+    let least = MOST - SMALL.len();
+    let less = labelled(least);
     let half = labelled(MOST / 2);
     assert_eq!(half.len() + half.len() + 1, MOST);
     // Of 22 rows, the last one short.
@@ -369,7 +370,6 @@ fn the_largest_joined_files() {
         let before = [15, 31].map(|row| (23 + row * (20 + LONGEST_VALUE)) as u32);
         let list = vec![0, before[0], before[1]];
         assert_eq!(joined, Ok((Built { entries: 3, rows }, list)));
-        assert_eq!(least + SMALL.len(), MOST);
 
         assert_eq!((library.check)(kind, &half), Ok(22));
         let both = (&half[..], &half_index[..]);
@@ -400,14 +400,85 @@ fn the_largest_joined_files() {
     }
 }
 
-/// Only the sum of the two sizes is compared, before all else; in 32 bits some of these sums are small.
+/// Sizes of two files, around those that just fit together, and such that their sum turns in 32 or 33 bits.
+const SIZES: [(usize, usize); 18] = [
+    (0, MOST),
+    (MOST, 0),
+    (1, MOST - 1),
+    (MOST - 1, 1),
+    (1 << 31, (1 << 31) - 1),
+    ((1 << 31) - 1, 1 << 31),
+    (1, MOST),
+    (MOST, 1),
+    (1 << 31, 1 << 31),
+    ((1 << 31) - 1, (1 << 31) + 1),
+    (0, MOST + 1),
+    (MOST + 1, 0),
+    (20, MOST + 1),
+    (MOST + 1, 20),
+    (MOST, MOST),
+    (MOST + 1, MOST + 1),
+    (0, 2 * (MOST + 1)),
+    (2 * (MOST + 1), 20),
+];
+
+fn is_too_long(first: usize, second: usize) -> bool {
+    first + second > MOST
+}
+
+/// Whether two sizes are too much together.
+type IsTooLong = fn(usize, usize) -> bool;
+
+/// Ways to compare the sizes wrongly.
+const WRONG_SUMS: [(&str, IsTooLong); 8] = [
+    ("the first alone", |first, _| first > MOST),
+    ("the second alone", |_, second| second > MOST),
+    ("each alone", |first, second| first > MOST || second > MOST),
+    ("both at once", |first, second| {
+        first > MOST && second > MOST
+    }),
+    ("the sum in 33 bits", |first, second| {
+        (first + second) % (1 << 33) > MOST
+    }),
+    ("one too early", |first, second| first + second >= MOST),
+    ("one too late", |first, second| first + second > MOST + 1),
+    ("the half of it for each", |first, second| {
+        first > 1 << 31 || second > 1 << 31
+    }),
+];
+
+/// Files of zeros: all that is right with them is their sizes.
+#[test]
+fn only_the_sum_of_two_sizes_is_compared() {
+    let zeros = vec![0; 2 * (MOST + 1)];
+    for (first, second) in SIZES {
+        // The first file that has bytes is refused next.
+        let next = if first > 0 { first } else { second };
+        let refusal = match (is_too_long(first, second), next) {
+            (true, _) => Refusal::TooBig,
+            (false, ..=19) => Refusal::Short,
+            (false, _) => Refusal::BadLabel,
+        };
+        for (library, versions) in told() {
+            let listed = |size: usize| (&zeros[..size], &[][..]);
+            let joined = join(&library, versions, listed(first), listed(second));
+            assert_eq!(joined, refused(refusal), "{first} {second}");
+        }
+    }
+    for (fault, wrong) in WRONG_SUMS {
+        let differ =
+            |&(first, second): &(usize, usize)| wrong(first, second) != is_too_long(first, second);
+        assert!(SIZES.iter().any(differ), "{fault}");
+    }
+}
+
+/// The sum of the two sizes is compared before all else.
 #[test]
 fn more_bytes_than_a_joined_file_may_have() {
-    let (most, big) = (labelled(MOST), vec![0; 2 * (MOST + 1)]);
+    let (most, big) = (labelled(MOST), vec![0; MOST + 1]);
     let index = [0, 1_600_000_304, 3_200_000_608];
     let small = (SMALL, &[0][..]);
     let faulty = (&b"NJPL1I00DEMO00000004abc"[..], &[0][..]);
-    let none = (&[][..], &[][..]);
     let most = (&most[..], &index[..]);
     let zeros = |size: usize| (&big[..size], &[][..]);
     for (library, versions) in told() {
@@ -419,19 +490,6 @@ fn more_bytes_than_a_joined_file_may_have() {
             // By a byte, which no label has.
             (most, zeros(1)),
             (zeros(1), most),
-            (zeros(MOST), zeros(1)),
-            (zeros(1 << 31), zeros(1 << 31)),
-            (zeros((1 << 31) - 1), zeros((1 << 31) + 1)),
-            // One file is too long by itself.
-            (zeros(MOST + 1), none),
-            (none, zeros(MOST + 1)),
-            (zeros(MOST + 1), small),
-            (small, zeros(MOST + 1)),
-            // The sum turns to one that is small: 0, 22, 2^32 - 2.
-            (zeros(MOST + 1), zeros(MOST + 1)),
-            (zeros(2 * (MOST + 1)), none),
-            (zeros(MOST), faulty),
-            (zeros(MOST), zeros(MOST)),
             // Before a fault of the first file, and before its list.
             (faulty, most),
             (faulty, zeros(MOST + 1)),
@@ -447,14 +505,9 @@ fn more_bytes_than_a_joined_file_may_have() {
         }
         // As much as there may be: what is next is the first file's fault, then the second's.
         for (first, second, refusal) in [
-            (zeros(MOST), none, Refusal::BadLabel),
-            (none, zeros(MOST), Refusal::BadLabel),
-            (zeros(1), zeros(MOST - 1), Refusal::Short),
-            (zeros(MOST - 1), zeros(1), Refusal::BadLabel),
             (small, zeros(MOST - SMALL.len()), Refusal::BadLabel),
             (faulty, zeros(MOST - SMALL.len()), Refusal::Overrun),
             ((SMALL, &[]), zeros(MOST - SMALL.len()), Refusal::BadIndex),
-            (zeros(1 << 31), zeros((1 << 31) - 1), Refusal::BadLabel),
         ] {
             let joined = join(&library, versions, first, second);
             assert_eq!(joined, refused(refusal));

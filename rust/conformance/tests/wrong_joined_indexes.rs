@@ -27,7 +27,7 @@ struct Asked<'a> {
 type Wrong = fn(Asked<'_>, &mut [u32]) -> Answer<Built>;
 
 /// What the entries are.
-const ENTRIES: [(&str, Wrong); 32] = [
+const ENTRIES: [(&str, Wrong); 35] = [
     ("both lists, the second shifted", |asked, list| {
         asked.writing(list, |joined| {
             let length = joined.length;
@@ -157,6 +157,31 @@ const ENTRIES: [(&str, Wrong); 32] = [
             })
         },
     ),
+    ("the place behind the row in front", |asked, list| {
+        asked.writing(list, |joined| {
+            let ends = joined.second.iter().map(|row| row.end);
+            let places = [0].into_iter().chain(ends).zip(&joined.second);
+            let first = joined.first.iter().map(|row| row.label);
+            let second = places.map(|(place, _)| place + joined.length);
+            first.chain(second).step_by(16).collect()
+        })
+    }),
+    (
+        "labels are counted on from an entry, of groups too",
+        |asked, list| {
+            asked.walking(list, |asked, entry, on| {
+                asked.second.labels_on(entry, on, 20)
+            })
+        },
+    ),
+    (
+        "groups are passed like rows from an entry on",
+        |asked, list| {
+            asked.walking(list, |asked, entry, on| {
+                asked.second.labels_on(entry, on, u32::MAX)
+            })
+        },
+    ),
     ("rows in groups are passed over", |asked, list| {
         asked.leaving_out(list, |row| row.depth > 1)
     }),
@@ -218,7 +243,7 @@ const ENTRIES: [(&str, Wrong); 32] = [
 ];
 
 /// What is counted.
-const COUNTS: [(&str, Wrong); 10] = [
+const COUNTS: [(&str, Wrong); 11] = [
     ("the entries of both files", |asked, list| {
         let entries = asked.first.list.len() + asked.second.list.len();
         Ok(Built {
@@ -283,6 +308,13 @@ const COUNTS: [(&str, Wrong); 10] = [
         Ok(Built {
             rows,
             ..asked.right(list)?
+        })
+    }),
+    ("rows in 8 bits", |asked, list| {
+        let built = asked.right(list)?;
+        Ok(Built {
+            rows: built.rows % 256,
+            ..built
         })
     }),
     ("rows for entries", |asked, list| {
@@ -354,7 +386,7 @@ const WRITTEN: [(&str, Wrong); 8] = [
 ];
 
 /// Which refusal there is, and with which place.
-const REFUSALS: [(&str, Wrong); 33] = [
+const REFUSALS: [(&str, Wrong); 35] = [
     (
         "8 before all, where there is no room",
         |asked, list| match list {
@@ -470,6 +502,26 @@ const REFUSALS: [(&str, Wrong); 33] = [
     ("no list is checked", |asked, list| {
         asked.with_lists(list, |index, _| index.to_vec(), |index, _| index.to_vec())
     }),
+    (
+        "the second's list is checked where the first is full",
+        |asked, list| {
+            let rows = asked.first.rows(asked.versions)?.len();
+            match rows % 16 {
+                0 => asked.right(list),
+                _ => asked.with_lists(list, |_, list| list.to_vec(), |index, _| index.to_vec()),
+            }
+        },
+    ),
+    (
+        "the second's list is checked where the first is not full",
+        |asked, list| {
+            let rows = asked.first.rows(asked.versions)?.len();
+            match rows % 16 {
+                0 => asked.with_lists(list, |_, list| list.to_vec(), |index, _| index.to_vec()),
+                _ => asked.right(list),
+            }
+        },
+    ),
     (
         "the first's list is checked for its length",
         |asked, list| asked.with_lists(list, as_long, |_, list| list.to_vec()),
@@ -615,6 +667,24 @@ impl Listed<'_> {
         leaves.map(Row::of).collect()
     }
 
+    /// The place so many labels on from another. Of a group it passes so many bytes at most, its label too.
+    fn labels_on(self, from: u32, on: usize, most: u32) -> u32 {
+        let mut place = from;
+        for _ in 0..on {
+            let rest = &self.file[(place as usize).min(self.file.len())..];
+            let Ok(label) = label::read(label::Versions::Both, rest) else {
+                break;
+            };
+            let inside = if label.is_group() {
+                most - 20
+            } else {
+                u32::MAX
+            };
+            place += 20 + (label.length as u32).min(inside);
+        }
+        place
+    }
+
     fn rows(self, versions: Versions) -> Answer<Vec<Row>> {
         (RIGHT.check)(Kind::Labelled(versions), self.file)?;
         Ok(self.rows_in_front(versions))
@@ -736,6 +806,20 @@ impl<'a> Asked<'a> {
             let second = joined.second.iter().skip(begins(joined.first.len()));
             let second = second.step_by(16).map(|row| row.label + joined.length);
             index_of(&joined.first).into_iter().chain(second).collect()
+        })
+    }
+
+    /// Has the entries of the second file so many on from those of its list, where the first is not full.
+    fn walking(self, list: &mut [u32], walked: fn(Self, u32, usize) -> u32) -> Answer<Built> {
+        self.writing(list, |joined| {
+            let own = joined.first.len().div_ceil(16);
+            let on = joined.first.len().next_multiple_of(16) - joined.first.len();
+            let mut entries = joined.entries();
+            if on > 0 {
+                let others = entries.iter_mut().skip(own).zip(self.second.list);
+                others.for_each(|(slot, &entry)| *slot = walked(self, entry, on) + joined.length);
+            }
+            entries
         })
     }
 

@@ -296,9 +296,10 @@ fn faulty() -> Vec<Asked> {
     asked
 }
 
-/// Each wrong list, of the first file, of the second and of both; some with too little room.
+/// Each wrong list, of the first file, of the second and of both, where the first file fills its last group of
+/// 16 and where it does not; some with too little room.
 fn listed() -> Vec<Asked> {
-    let with = |lists: [Listed; 2], room| {
+    let with = |rows, lists: [Listed; 2], room| {
         let side = |rows, list| Side {
             list,
             ..Side::right(match list {
@@ -307,19 +308,21 @@ fn listed() -> Vec<Asked> {
             })
         };
         Asked {
-            sides: [side(33, lists[0]), side(17, lists[1])],
+            sides: [side(rows, lists[0]), side(17, lists[1])],
             versions: None,
             room,
         }
     };
     let mut asked = Vec::new();
     let others = [Listed::OfOther, Listed::Shifted];
-    for list in WRONG_LISTS.map(Listed::Own).into_iter().chain(others) {
+    let lists = WRONG_LISTS.map(Listed::Own).into_iter().chain(others);
+    for (list, rows) in lists.zip([33, 32].into_iter().cycle()) {
         let wrong = [[list, RIGHT], [RIGHT, list], [list, list]];
-        asked.extend(wrong.map(|lists| with(lists, Room::More)));
+        let mut ask = |room| asked.extend(wrong.map(|lists| with(rows, lists, room)));
+        ask(Room::More);
         match list {
-            Listed::Own(List::Raised) => asked.extend(wrong.map(|lists| with(lists, Room::Less))),
-            Listed::Own(List::Longer) => asked.extend(wrong.map(|lists| with(lists, Room::None))),
+            Listed::Own(List::Raised) => ask(Room::Less),
+            Listed::Own(List::Longer) => ask(Room::None),
             _ => {}
         }
     }
@@ -393,9 +396,11 @@ fn without_rows() -> Vec<Asked> {
     pairs.into_iter().flat_map(told).collect()
 }
 
-/// Entries of more than 16 bits, of the second file only because of the first one's length.
+/// Entries of more than 16 bits, of the second file only because of the first one's length; and more rows
+/// than 8 bits count.
 fn wide() -> Vec<Asked> {
     vec![
+        Asked::right(File::Flat(257), File::Rows(17)),
         Asked::right(File::LargeRow, File::Rows(33)),
         Asked::right(File::LargeEntry, File::Rows(17)),
         Asked::right(File::Rows(17), File::LargeEntry),
@@ -662,6 +667,10 @@ mod tests {
             };
             seen.push(format!("{which} list {words}"));
         }
+        if states == ["right", "wrong"] {
+            let full = first.count().is_multiple_of(16);
+            seen.push(format!("second list wrong, first full: {full}"));
+        }
         let has_2 = [first, second].map(|lent| {
             let of_one = rows_of(&lent.file, Versions::One).is_err();
             of_one && rows_of(&lent.file, Versions::OneAndTwo).is_ok()
@@ -697,6 +706,9 @@ mod tests {
             return seen;
         }
         seen.push(format!("{} and {} rows", first.count(), second.count()));
+        if first.count() > 255 {
+            seen.push("more than 255 rows".to_string());
+        }
         let length = first.file.len();
         let begins = first.count().next_multiple_of(16) - first.count();
         let rows = second.rows.iter().flatten();
@@ -765,6 +777,10 @@ mod tests {
             }
         }
         words.push("fewer entries, room of both".to_string());
+        for full in [true, false] {
+            words.push(format!("second list wrong, first full: {full}"));
+        }
+        words.push("more than 255 rows".to_string());
         words.push("an entry beyond 65,536 by the length".to_string());
         words.push("an entry beyond 65,536 of its own".to_string());
         for versions in CHOICES {
