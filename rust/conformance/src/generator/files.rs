@@ -992,7 +992,7 @@ fn harm(file: &mut LabelledFile, random: &mut Random) {
     }
     let spot = random.pick(&spots);
     let label = spot.place..spot.place + LABEL;
-    match random.between(0, 16) {
+    match random.between(0, 17) {
         0..=2 => {
             let position = random.between(0, LABEL - 1);
             harm_byte(&mut file.bytes[label], position, random);
@@ -1025,7 +1025,7 @@ fn harm(file: &mut LabelledFile, random: &mut Random) {
             };
             file.bytes.truncate(kept);
         }
-        8 => {
+        8 | 17 => {
             let extra = random.pick(&[1, 2, 18, 19, 20, 21, 39, 40]);
             let fill = random.pick(b"^\0 0");
             file.bytes.resize(file.bytes.len() + extra, fill);
