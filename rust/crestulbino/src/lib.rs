@@ -52,11 +52,12 @@
 //! ```
 //! use crestulbino::{joined_index, Versions};
 //!
-//! let first = b"NJPL1I00DEMO00000003abc".repeat(16);
-//! let second = b"CCSD1Z00000100000043NJPL1I00DEMO00000003abcNJPL1I00DEMO00000000";
+//! let (one, one_index) = (b"NJPL1I00DEMO00000003abc".repeat(16), [0]);
+//! let two = b"CCSD1Z00000100000043NJPL1I00DEMO00000003abcNJPL1I00DEMO00000000";
+//! let two_index = [20];
 //! let mut list = [0; 2];
-//! let built = joined_index(Versions::One, &first, &[0], second, &[20], &mut list)?;
-//! assert_eq!((built.rows, list), (18, [0, 368 + 20]));
+//! let roll = joined_index(Versions::One, &one, &one_index, two, &two_index, &mut list)?;
+//! assert_eq!((roll.rows, list), (18, [0, 368 + 20]));
 //! # Ok::<(), crestulbino::Refused>(())
 //! ```
 //!
