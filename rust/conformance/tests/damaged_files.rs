@@ -6,6 +6,7 @@
 use conformance::generator::kept::record;
 use conformance::library::{INDEPENDENT, PROVED};
 use crestulbino::{Kind, Versions, Window};
+use std::sync::LazyLock;
 
 fn leaf(value: &str) -> String {
     format!("NJPL1I00DEMO{:08}{value}", value.len())
@@ -33,13 +34,11 @@ fn two_entries_file() -> Vec<u8> {
     file.concat().into_bytes()
 }
 
-/// A file of two rows, to stand in place of another one, to be replaced by it or to be joined with it.
+/// A file of two rows, to stand in place of another one or to be replaced by it.
 const OTHER: &[u8] = b"NJPL1I00DEMO00000003abcNJPL1I00DEMO00000000";
 
-/// A file and its index, of which the rows do not fill their last group of 16.
-fn fifteen_rows() -> (Vec<u8>, [u32; 1]) {
-    (group('Z', &vec![leaf(""); 15]).into_bytes(), [20])
-}
+/// A file of fifteen rows, which do not fill their group of 16, to be joined with another one.
+static FIFTEEN: LazyLock<String> = LazyLock::new(|| group('Z', &vec![leaf(""); 15]));
 
 /// Where labels begin, in values too.
 fn labels(file: &[u8]) -> Vec<usize> {
@@ -101,31 +100,22 @@ fn assert_same(versions: Versions, file: &[u8], rows: usize, index: &[u32], plac
             (other.check_kept2)(versions, file, &kept)
         );
     }
-    let (fifteen, list) = fifteen_rows();
-    let others = [(OTHER, &[0][..]), (&fifteen, &list)];
-    for (other_file, other_list) in others {
-        for list in [index, own] {
-            for ((first, first_list), (second, second_list)) in [
-                ((file, list), (other_file, other_list)),
-                ((other_file, other_list), (file, list)),
-                ((file, list), (file, list)),
-            ] {
-                let mut lists = [[7; 5]; 2];
-                let [joined, other_joined] = &mut lists;
-                assert_eq!(
-                    (one.joined_index)(versions, first, first_list, second, second_list, joined),
-                    (other.joined_index)(
-                        versions,
-                        first,
-                        first_list,
-                        second,
-                        second_list,
-                        other_joined
-                    )
-                );
-                assert_eq!(lists[0], lists[1]);
-            }
-        }
+    let fifteen = (FIFTEEN.as_bytes(), &[20][..]);
+    let (with, with_own) = ((file, index), (file, own));
+    for (first, second) in [
+        (with, fifteen),
+        (fifteen, with),
+        (with_own, fifteen),
+        (fifteen, with_own),
+        (with_own, with_own),
+    ] {
+        let mut lists = [[7; 5]; 2];
+        let [joined, other_joined] = &mut lists;
+        assert_eq!(
+            (one.joined_index)(versions, first.0, first.1, second.0, second.1, joined),
+            (other.joined_index)(versions, first.0, first.1, second.0, second.1, other_joined)
+        );
+        assert_eq!(lists[0], lists[1]);
     }
     for row in 0..=rows {
         let window = Window::new(0, row % 3);
