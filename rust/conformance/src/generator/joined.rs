@@ -3,7 +3,7 @@
 
 use super::files::{self, LabelledFile, Mix, FAULTS};
 use super::kept::{List, ROWS, WRONG_LISTS};
-use super::random::Random;
+use super::random::{each_once, Random};
 use super::{edges, CHOICES};
 use crate::Case;
 use crestulbino::{Refusal, Versions};
@@ -189,13 +189,7 @@ pub fn asked() -> Vec<Asked> {
         without_rows(),
         wide(),
     ];
-    let mut different = Vec::new();
-    for asked in all.concat() {
-        if !different.contains(&asked) {
-            different.push(asked);
-        }
-    }
-    different
+    each_once(all.concat())
 }
 
 /// Each number of rows with each other one; in groups and side by side, the room and what is told in turn.

@@ -2,7 +2,7 @@
 //! they are lent with, and the room for what is read or made of them.
 
 use super::files::{self, LabelledFile, Mix, FAULTS};
-use super::random::Random;
+use super::random::{each_once, Random};
 use super::{edges, CHOICES};
 use crate::Case;
 use crestulbino::{Refusal, Versions};
@@ -502,13 +502,7 @@ pub fn asked() -> Vec<Asked> {
         roomy(),
         wide(),
     ];
-    let mut different = Vec::new();
-    for asked in all.concat() {
-        if !different.contains(&asked) {
-            different.push(asked);
-        }
-    }
-    different
+    each_once(all.concat())
 }
 
 /// Each call with each harm, and with a right record of the other kind.

@@ -71,6 +71,17 @@ impl Random {
     }
 }
 
+/// The cards in their order, those that are the same once.
+pub fn each_once<T: PartialEq>(cards: Vec<T>) -> Vec<T> {
+    let mut different = Vec::new();
+    for card in cards {
+        if !different.contains(&card) {
+            different.push(card);
+        }
+    }
+    different
+}
+
 /// Deals all of its cards in random order before any of them comes again.
 pub struct Deck<T> {
     cards: Vec<T>,
