@@ -12,7 +12,7 @@ use Rattle.answer.specs.Outcome.{answer, refuse, need}
 use Rattle.answer.specs.Size.{largestFile, ofFile}
 use Rattle.answer.proofs.Outcomes.{after-answer}
 use Rattle.label.specs.declared.Versions.{Versions}
-use Rattle.sfdu.specs.Row.{Row}
+use Rattle.sfdu.specs.Row.{Row, rowBytes}
 use Rattle.sfdu.specs.Forest.{Forest, encode, leaves}
 use Rattle.sfdu.specs.Check.{rowsOfFile}
 use Rattle.sfdu.proofs.Exact.{DividesFile, fileLeaves, accepted-exactly}
@@ -20,7 +20,7 @@ use Rattle.sfdu.proofs.Values.{bytes-are-values}
 use Rattle.row_index.specs.Index.{indexOf, buildIndex, checkIndex}
 use Rattle.row_index.proofs.IndexExact.{index-check-is-exact}
 use Rattle.joined.specs.Joined.{movedBy, joinedRows, beside, joinIndex}
-use Rattle.joined.specs.Joining.{bytesOf, Joining}
+use Rattle.joined.specs.Joining.{Joining}
 use Rattle.joined.proofs.Beside.{encode-beside, values-beside, valid-beside, leaves-beside}
 use Rattle.joined.proofs.Moved.{leaves-move}
 use Rattle.joined.proofs.Sixteenths.{index-in-turn}
@@ -48,7 +48,7 @@ module _ (versions : Versions) where
       rows-are = leaves-are;
     }
 
-    bytes-stay : map (bytesOf (a ++ b)) (joinedRows a rows more) ≡ map (bytesOf a) rows ++ map (bytesOf b) more
+    bytes-stay : map (rowBytes (a ++ b)) (joinedRows a rows more) ≡ map (rowBytes a) rows ++ map (rowBytes b) more
     bytes-stay =
         bytes-are-values versions (a ++ b) (joinedRows a rows more) (beside F G) both-divide ∙ values-beside F G
         ∙ sym (ap₂ _++_ (bytes-are-values versions a rows F first) (bytes-are-values versions b more G second))

@@ -21,13 +21,13 @@ use Rattle.walk.specs.Walk.{rowAtLeaf, walkFrom}
 use Rattle.walk.proofs.WalkLoop.{place-inside}
 use Rattle.walk.proofs.WalkReads.{asWalked, walkAt, walk-reads-rows, resume, found-ends-inside}
 use Rattle.row_index.specs.Index.{every, indexOf, checkIndex, placeFound}
-use Rattle.row_index.specs.Private.{theIndex}
+use Rattle.row_index.specs.Private.{known, theIndex}
 use Rattle.row_index.proofs.Sixteenths.{entry-is-a-row, groups-after, one-entry-a-group}
 use Rattle.row_index.proofs.Entries.{index-of-accepted, leaf-of-entry}
 use Rattle.row_index.proofs.Building.{rows-counted, entries-counted}
 use Rattle.row_index.proofs.IndexExact.{index-check-is-exact}
 use Rattle.joined.specs.Joined.{movedBy, joinedRows}
-use Rattle.joined.specs.Private.{known, further}
+use Rattle.joined.specs.Private.{further}
 use Rattle.joined.proofs.Sixteenths.{index-in-turn, no-more-entries, moved-entry}
 use Rattle.joined.proofs.Joining.{joined-accepted}
 

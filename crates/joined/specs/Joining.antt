@@ -6,24 +6,19 @@ use mathlib.Core.List.{List, _++_, map}
 use lib.ListN.{length}
 use lib.Dec.{leb}
 use Rattle.answer.specs.Outcome.{answer, need}
-use Rattle.answer.specs.Window.{bytesAt}
 use Rattle.label.specs.declared.Versions.{Versions}
-use Rattle.sfdu.specs.Row.{Row, valueAt}
+use Rattle.sfdu.specs.Row.{Row, valueAt, rowBytes}
 use Rattle.sfdu.specs.Forest.{Forest, encode, Valid}
 use Rattle.sfdu.specs.Check.{rowsOfFile}
 use Rattle.row_index.specs.Index.{every, indexOf, buildIndex, checkIndex}
 use Rattle.joined.specs.Joined.{movedBy, joinedRows, beside, lacking, joinIndex}
-
--- the bytes of a row of this file
-abbrev pub bytesOf : List ℕ → Row → List ℕ
-bytesOf f r = bytesAt f (valueAt r) (r .size)
 
 pub record Joining (versions : Versions) (a b : List ℕ) (rows more : List Row) : Type 0 where
   -- the joined file is accepted, with these rows; of a row that moves, the value moves as the label does
   pub accepted : rowsOfFile versions (a ++ b) ≡ answer (joinedRows a rows more)
   pub values-move : (r : Row) → valueAt (movedBy (length a) r) ≡ length a + valueAt r
   -- the rows have the bytes that they had
-  pub same-bytes : map (bytesOf (a ++ b)) (joinedRows a rows more) ≡ map (bytesOf a) rows ++ map (bytesOf b) more
+  pub same-bytes : map (rowBytes (a ++ b)) (joinedRows a rows more) ≡ map (rowBytes a) rows ++ map (rowBytes b) more
   -- it divides into the objects of the first and then those of the second
   pub divides : (F G : Forest) → Valid versions 8 F → encode F ≡ a → Valid versions 8 G → encode G ≡ b
       → Valid versions 8 (beside F G) × (encode (beside F G) ≡ a ++ b)

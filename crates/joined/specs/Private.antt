@@ -1,16 +1,10 @@
 -- Cited only by promises of private functions: the entries of a joined index that stand in the second file.
 use Prim.Native.Nat.{ℕ, _+_}
-use mathlib.Core.List.{List, [], map}
-use Rattle.answer.specs.Outcome.{Outcome, answer, refuse}
+use mathlib.Core.List.{List, map}
 use Rattle.label.specs.declared.Versions.{Versions}
-use Rattle.sfdu.specs.Row.{Row}
 use Rattle.sfdu.specs.Check.{rowsOfFile}
 use Rattle.row_index.specs.Index.{every}
-
--- the rows of a file: of one that is refused, none
-abbrev pub known : Outcome (List Row) → List Row
-known (answer rows) = rows
-known (refuse n p) = []
+use Rattle.row_index.specs.Private.{known}
 
 -- the places of every sixteenth row of a file behind so many bytes, after so many rows that are passed
 unfoldable pub further : Versions → ℕ → List ℕ → ℕ → List ℕ

@@ -11,11 +11,11 @@ use Rattle.answer.specs.Window.{bytesAt}
 use Rattle.answer.specs.declared.Shown.{Shown}
 use Rattle.answer.proofs.Outcomes.{mapped-answer}
 use Rattle.label.specs.declared.Versions.{Versions}
-use Rattle.sfdu.specs.Row.{Row, whole}
+use Rattle.sfdu.specs.Row.{Row, whole, rowBytes}
 use Rattle.sfdu.specs.Forest.{Forest, leaves}
 use Rattle.sfdu.specs.Check.{rowsOfFile, checkLabelled}
 use Rattle.sfdu.proofs.Exact.{DividesFile, accepted-exactly, only-one-forest}
-use Rattle.sfdu.proofs.Values.{rowBytes, bytes-are-values}
+use Rattle.sfdu.proofs.Values.{bytes-are-values}
 use Rattle.fixed_rows.specs.Check.{countRows}
 use Rattle.fixed_rows.proofs.Framing.{rows-are-divided, counts-rows, only-one-way, bytes-are-shown}
 use Rattle.waveform.specs.Rows.{waveform}

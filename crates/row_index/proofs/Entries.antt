@@ -31,13 +31,13 @@ module _ (versions : Versions) where
   unfolding theIndex
   whose-index f i h = cases (rowsOfFile versions f) refl h
     where
-      cases : (o : Outcome (List Row)) → rowsOfFile versions f ≡ o → i < length (known o) → (rows : List Row) × (rowsOfFile versions f ≡ answer rows) × (known (rowsOfFile versions f) ≡ indexOf rows)
-      cases (answer rows) e k = (rows, e, ap known e)
+      cases : (o : Outcome (List Row)) → rowsOfFile versions f ≡ o → i < length (indexOf (known o)) → (rows : List Row) × (rowsOfFile versions f ≡ answer rows) × (indexOf (known (rowsOfFile versions f)) ≡ indexOf rows)
+      cases (answer rows) e k = (rows, e, ap (λ (o : Outcome (List Row)). indexOf (known o)) e)
       cases (refuse n p) e k = absurd (not-suc-le-zero k)
 
   pub index-of-accepted : (f : List ℕ) (rows : List Row) → rowsOfFile versions f ≡ answer rows → theIndex versions f ≡ indexOf rows
   unfolding theIndex
-  index-of-accepted f rows e = ap known e
+  index-of-accepted f rows e = ap (λ (o : Outcome (List Row)). indexOf (known o)) e
 
   -- the leaf behind entry i of an accepted file
   module _ (f : List ℕ) (rows : List Row) (accepted : rowsOfFile versions f ≡ answer rows) (i : ℕ) (there : i < length (indexOf rows)) where

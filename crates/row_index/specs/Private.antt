@@ -7,10 +7,11 @@ use Rattle.sfdu.specs.Row.{Row}
 use Rattle.sfdu.specs.Check.{rowsOfFile}
 use Rattle.row_index.specs.Index.{indexOf}
 
--- the index of a file: of one that is refused, none
-abbrev pub known : Outcome (List Row) → List ℕ
-known (answer rows) = indexOf rows
+-- the rows of a file: of one that is refused, none
+abbrev pub known : Outcome (List Row) → List Row
+known (answer rows) = rows
 known (refuse n p) = []
 
+-- its index
 unfoldable pub theIndex : Versions → List ℕ → List ℕ
-theIndex versions f = known (rowsOfFile versions f)
+theIndex versions f = indexOf (known (rowsOfFile versions f))

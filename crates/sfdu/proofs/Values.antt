@@ -8,15 +8,10 @@ use mathlib.Core.List.{List, [], _∷_, _++_, append-nil, map}
 use lib.ListN.{length, take, drop}
 use lib.Seq.{take-at, drop-at, drop-drop}
 use Rattle.label.specs.declared.Versions.{Versions}
-use Rattle.answer.specs.Window.{bytesAt}
-use Rattle.sfdu.specs.Row.{Row, valueAt}
+use Rattle.sfdu.specs.Row.{Row, rowBytes}
 use Rattle.sfdu.specs.Forest.{Forest, done, leaf, group, encode, IsLabel, Valid, leaves, values}
 use Rattle.sfdu.proofs.Forests.{three, front-drop}
 use Rattle.sfdu.proofs.Exact.{DividesFile}
-
--- the bytes of a row of this file
-abbrev pub rowBytes : List ℕ → Row → List ℕ
-rowBytes f r = bytesAt f (valueAt r) (r .size)
 
 map-append : {A B : Type 0} (f : A → B) (xs ys : List A) → map f (xs ++ ys) ≡ map f xs ++ map f ys
 map-append f [] ys = refl

@@ -3,6 +3,8 @@
 use Prim.Native.Nat.{ℕ, _+_, _≤_}
 use mathlib.Core.Path.{_≡_}
 use mathlib.Core.Logic.{_↔_}
+use mathlib.Core.List.{List}
+use Rattle.answer.specs.Window.{bytesAt}
 use Rattle.answer.specs.declared.Part.{Part}
 use Rattle.answer.specs.declared.Shown.{Shown}
 use Rattle.answer.specs.declared.Nesting.the-variants.{Known}
@@ -21,6 +23,10 @@ pub record Row : Type 0 where
 -- the place of a row's first byte: its value stands after the twenty bytes of its label
 abbrev pub valueAt : Row → ℕ
 valueAt r = r .label + labelSize
+
+-- the bytes of a row of this file
+abbrev pub rowBytes : List ℕ → Row → List ℕ
+rowBytes f r = bytesAt f (valueAt r) (r .size)
 
 -- a row as a part of the file: the leaf's value
 abbrev pub valueOf : Row → Part
