@@ -1,6 +1,8 @@
 // What every call of this library answers: a value, or one of the refusals of document 01's table
 // with its place; parts of a lent file, and windows. Renders the section "Refusals and what they
 // carry". It knows no file format.
+#![tactic(auto)]
+
 ghost use Rattle.std.specs.Prelude.{◌≡◌, ◌<◌};
 ghost use Rattle.answer.specs.Refusal.{number_of};
 ghost use Rattle.answer.specs.Address.{unlabelled as unlabelled_row};

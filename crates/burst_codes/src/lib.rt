@@ -1,6 +1,8 @@
 // What the numbers in two fields of Cassini short bursts stand for: in field 33, the beam mask, how many
 // beams are enabled; in field 34 the compression mode. Renders document 02, item 1, and source document
 // 000, sections 8.2.n.33 and 8.2.n.34. It reads no file: the caller brings the number.
+#![tactic(auto)]
+
 ghost use Rattle.std.specs.Prelude.{◌≡◌};
 ghost use Rattle.burst_codes.specs.Beams.{beams_in, beams_of};
 ghost use Rattle.burst_codes.specs.Modes.{mode_number, numbered};

@@ -2,6 +2,8 @@
 // document 000, read by its storage type, and the verdict on it by its limits. Renders document 02,
 // item 1. Where rows and fields stand is left to `bursts` and `burst_layout`, which limits there are
 // and how they are judged to `limits` and `verdicts`.
+#![tactic(auto)]
+
 ghost use Rattle.std.specs.Prelude.{◌≡◌, ◌+◌, ◌≤◌, length};
 ghost use Rattle.answer.specs.Outcome.{answer};
 ghost use Rattle.answer.specs.Window.{bytes_at};

@@ -2,6 +2,8 @@
 // 000, the place of its first byte in the row, how many bytes it has, and its type by section 8.2.
 // Renders document 02, item 1: "the fields of section 8.1, each named by its position in that list,
 // counted from 1". It reads no file: what a field's bytes say is left to the crates above.
+#![tactic(auto)]
+
 ghost use Rattle.std.specs.Prelude.{◌≡◌};
 ghost use Rattle.burst_layout.specs.Layout.{found, field_at};
 ghost use Rattle.burst_layout.specs.Private.{type_of, size_of, Others, word_at, digits_at};

@@ -5,6 +5,8 @@
 //
 // The caller vouches for the kind of the file and for the first place: nothing here looks into a
 // record.
+#![tactic(auto)]
+
 ghost use Rattle.std.specs.Prelude.{◌≡◌, ◌≤◌};
 ghost use Rattle.answer.specs.Outcome.{mapped};
 ghost use Rattle.answer.specs.Counted.{counted};

@@ -6,6 +6,8 @@
 // outermost object's place. A dot is four: its byte's place, the byte, its tone, 1 or 0 for whether it is
 // set. What is answered is left to the crates below; the C declarations, and what a C caller owes, are left
 // to the header.
+#![tactic(auto)]
+
 ghost use Rattle.std.specs.Prelude.{◌≡◌, [], length as size};
 ghost use Rattle.answer.specs.Outcome.{mapped};
 ghost use Rattle.answer.specs.Filled.{filled};

@@ -5,6 +5,8 @@
 // Eight samples are compared at once, four in each of two words, with the least samples that set no dot, and
 // no tone is looked up for a dot: t < 4 * M + 2 for the largest t with t * t <= 255 * s says that 255 * s is
 // below the square of 4 * M + 2.
+#![tactic(auto)]
+
 ghost use Rattle.std.specs.Prelude.{◌≡◌, ◌++◌, ℕ, ◌+◌, ◌*◌, ◌/◌, ◌≤◌, ◌<◌, length, drop};
 ghost use Rattle.std.specs.Int.Bits.{bit_and};
 ghost use Rattle.answer.specs.Counted.{counted};

@@ -1,6 +1,8 @@
 // Dots on paper: the tone of a sample, the ordered matrix, and whether a dot is set. Renders document 02,
 // item 7, but for lines and strips, which are left to `dot_lines` and `plotter`. It knows no file and no
 // line.
+#![tactic(auto)]
+
 ghost use Rattle.std.specs.Prelude.{◌≡◌, ◌<◌};
 ghost use Rattle.dots.specs.Tone.{tone as tone_of};
 ghost use Rattle.dots.specs.Matrix.{level};

@@ -3,6 +3,8 @@
 // before it, and whether a row starts at a place. Renders what document 01 says of waveform rows and
 // document 02, item 1, of short bursts, for both. Computing where row k starts, and which of its bytes
 // are shown, is left to the crates above; that the two ways to a row agree is proved here.
+#![tactic(auto)]
+
 ghost use Rattle.std.specs.Prelude.{◌≡◌, drop};
 ghost use Rattle.answer.specs.Counted.{counted};
 ghost use Rattle.fixed_rows.specs.Check.{whole_rows, row_count};

@@ -2,6 +2,8 @@
 // handed over: its parts through the pointers, and the result by value. On a refusal no pointer is
 // written. Renders document 01's "Every refusal carries its number and a place" as numbers. The
 // exported functions are left to `capi`.
+#![tactic(auto)]
+
 ghost use Rattle.std.specs.Prelude.{◌≡◌};
 ghost use Rattle.answer.specs.Refusal.{number_of};
 ghost use Rattle.answer.specs.Counted.{counted};

@@ -2,6 +2,8 @@
 // and the entries, and the entries. Renders document 01, "Kept form" (a house format), over the kind
 // and over what stands between. Which kinds there are is left to the crates above: `kept` has kind 1,
 // `kept_rows` kind 2.
+#![tactic(auto)]
+
 ghost use Rattle.std.specs.Prelude.{◌≡◌, ◌++◌, ◌+◌, ◌*◌, ◌≤◌, length, drop};
 ghost use Rattle.answer.specs.Counted.{counted};
 ghost use Rattle.answer.specs.Filled.{Writes};

@@ -4,6 +4,8 @@
 // that is answered and says nothing of the bytes. Promised is what holds whatever is given: `size` is at
 // most the memory's length, the memory keeps its length, and `failed` is set only where room is left.
 // Free otherwise are `size`, `failed` and every byte of the memory, those read and those after them.
+#![tactic(auto)]
+
 ghost use Rattle.std.specs.Prelude.{◌≡◌, true, ◌<◌, length};
 ghost use Rattle.io.specs.Counts.{IsPrefixLen};
 

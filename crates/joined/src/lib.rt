@@ -2,6 +2,8 @@
 // their indexes, with no joined file built. Renders document 02, item 10. That the joined file is
 // accepted, and which rows it has, is stated in `specs/Joining.antt`; what holds of several rolls, and
 // of the empty file, in `specs/Rolls.antt`.
+#![tactic(auto)]
+
 ghost use Rattle.std.specs.Prelude.{◌≡◌, ◌++◌, ◌+◌, ◌≤◌, length, take, drop};
 ghost use Rattle.answer.specs.Outcome.{answer, mapped};
 ghost use Rattle.answer.specs.Size.{largest_file};

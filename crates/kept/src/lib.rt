@@ -1,6 +1,8 @@
 // The kept form of an index: a list of 32-bit numbers written to bytes, and read back from them.
 // Renders document 01, "Kept form": kind 1 of the house record, whose rules are left to `house_record`.
 // What the numbers stand for, and whether they are the index of some file, is left to the crates above.
+#![tactic(auto)]
+
 ghost use Rattle.std.specs.Prelude.{◌≡◌, ◌++◌, ◌+◌, ◌*◌, ◌≤◌, length};
 ghost use Rattle.answer.specs.Counted.{counted};
 ghost use Rattle.answer.specs.Filled.{Writes};

@@ -2,6 +2,8 @@
 // count, and the check of a record of kind 2. Renders document 02, item 9. That each way and back gives
 // the same bytes is stated in `specs/SameBytes.antt`; the way back, and reading, need no file and are left
 // to `kept_rows`.
+#![tactic(auto)]
+
 ghost use Rattle.std.specs.Prelude.{◌≡◌, ◌++◌, ◌+◌, ◌*◌, ◌≤◌, length, drop};
 ghost use Rattle.answer.specs.Counted.{counted};
 ghost use Rattle.answer.specs.Filled.{Writes};

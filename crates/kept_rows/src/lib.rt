@@ -2,6 +2,8 @@
 // turned back into kind 1 without the file. Renders document 02, item 9. The house record, of which it
 // is a use, is left to `house_record`; what takes the file, which is the check and turning kind 1 into
 // kind 2, is left to `kept_check`.
+#![tactic(auto)]
+
 ghost use Rattle.std.specs.Prelude.{◌≡◌, ◌++◌, length};
 ghost use Rattle.answer.specs.Outcome.{mapped};
 ghost use Rattle.answer.specs.Counted.{counted};

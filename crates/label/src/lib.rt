@@ -2,6 +2,8 @@
 // 620.0 version 1; source documents 001, section 3.5.12, and 004, section 4.4.146), with the length
 // field of document 02, item 2, and version 2 of its item 11. Writing a label, and how labelled
 // objects stand in a file, is left to the crates above.
+#![tactic(auto)]
+
 ghost use Rattle.std.specs.Prelude.{◌≡◌, ◌+◌, ◌*◌, ◌≤◌, ◌<◌, ◌||◌, length as size, get_or, drop};
 ghost use Rattle.text.specs.Digits.{is_digit};
 ghost use Rattle.label.specs.Version.{version_byte, version_for};

@@ -3,6 +3,8 @@
 // document 02, item 11, "The writer is told the version". That what is written reads back, and that
 // every label that can be read is written again as the same label with no spaces, is stated in
 // `specs/ReadBack.antt` and proved in `proofs/RoundTrip.antt`.
+#![tactic(auto)]
+
 ghost use Rattle.std.specs.Prelude.{◌≡◌, ◌%◌, length as size};
 ghost use Rattle.answer.specs.Counted.{counted};
 ghost use Rattle.answer.specs.Filled.{Writes};

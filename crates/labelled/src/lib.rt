@@ -2,6 +2,8 @@
 // row, with the row's address. Renders document 01's check of labelled files and its paragraph on
 // reading a row of one, and document 02, item 8. Both are one nested search, which is left to `sfdu`;
 // windows are left to the reader.
+#![tactic(auto)]
+
 ghost use Rattle.std.specs.Prelude.{◌≡◌, ◌≤◌};
 ghost use Rattle.answer.specs.Counted.{counted};
 ghost use Rattle.answer.specs.Size.{largest_file};

@@ -2,6 +2,8 @@
 // document 004, section 4.4) and of the fields of Cassini's short bursts (document 02, item 1; source
 // document 000, section 8.2): for each a constant table of number, minimum and maximum, read a line at
 // a time. How a value is judged by them is left to the crate above.
+#![tactic(auto)]
+
 ghost use Rattle.std.specs.Prelude.{◌≡◌, [], ◌∷◌, ◌<◌, take, drop};
 ghost use Rattle.limits.specs.AltimeterLimits.{altimeter_table};
 ghost use Rattle.limits.specs.BurstLimits.{burst_table};

@@ -1,5 +1,7 @@
 // The list program (document 01, "The list program"): lists the labelled file on standard input,
 // one line for each row, or says why it is refused.
+#![tactic(auto)]
+
 use libc::{STDIN_FILENO, STDOUT_FILENO};
 
 // Prints the listing of a file, or says why it cannot.

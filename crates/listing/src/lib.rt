@@ -2,6 +2,8 @@
 // column of document 02, item 2: `rows N` and a line for each row, or `refused NUMBER PLACE` alone.
 // Version 1 of the label alone is allowed (item 11). Reading the file and printing the text are left to
 // the programs above.
+#![tactic(auto)]
+
 ghost use Rattle.std.specs.Prelude.{◌≡◌, ◌+◌, ◌≤◌, ◌<◌, ◌^◌, [], length, take};
 ghost use Rattle.answer.specs.Counted.{counted};
 ghost use Rattle.answer.specs.Outcome.{answer};

@@ -1,6 +1,8 @@
 // Little-endian numbers: the number that two or four bytes are, the lowest first, and the four bytes of
 // a number (document 01, "Kept form"; document 02, items 1 and 9). Where the bytes stand is left to the
 // crates above.
+#![tactic(auto)]
+
 ghost use Rattle.std.specs.Prelude.{◌≡◌, [], ◌∷◌, ◌%◌, ◌<◌};
 ghost use Rattle.little.specs.LittleEndian.{le, le_number};
 

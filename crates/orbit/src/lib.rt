@@ -1,6 +1,8 @@
 // The opening of the Magellan per-orbit parameters: document 01, "Per-orbit opening", and source
 // document 001, appendix D, parameters 1 to 3. What a D number is worth is left to `vax`, and finding
 // the parameters in a file to the caller.
+#![tactic(auto)]
+
 ghost use Rattle.std.specs.Prelude.{◌≡◌, ◌≤◌, length};
 ghost use Rattle.answer.specs.Window.{bytes_at};
 ghost use Rattle.vax.specs.Decoded.{decoded};

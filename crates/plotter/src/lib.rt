@@ -1,6 +1,8 @@
 // Strips for the plotter: the lines of dots of consecutive rows of a file of any kind, through one window.
 // Renders document 02, item 7. Files are checked and rows found by `reader`, whose promises are all that is
 // known of them here; a line of dots is `dot_lines`', and which byte stands behind a dot is left to `trace`.
+#![tactic(auto)]
+
 ghost use Rattle.std.specs.Prelude.{◌≡◌, ◌++◌, ℕ, ◌+◌, ◌*◌, ◌≤◌, ◌<◌, length, take, drop, leb};
 ghost use Rattle.answer.specs.Outcome.{mapped};
 ghost use Rattle.answer.specs.Counted.{counted};

@@ -4,6 +4,8 @@
 // caller names the kind and vouches for it; the labelled kind says which versions of the label are
 // allowed, that of bursts where the first record begins. A caller that knows the kind when it is
 // written jumps by the kind's own function, which costs less.
+#![tactic(auto)]
+
 ghost use Rattle.std.specs.Prelude.{◌≡◌, [], ◌+◌, ◌≤◌};
 ghost use Rattle.answer.specs.Outcome.{answer, and_then};
 ghost use Rattle.answer.specs.Counted.{counted};

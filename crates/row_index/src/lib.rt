@@ -1,6 +1,8 @@
 // The index of a labelled file, built, checked, and the jump to a row by it. Renders document 01,
 // "The index and the jump"; the kept form of an index is a crate of its own, and windows are left to
 // the reader.
+#![tactic(auto)]
+
 ghost use Rattle.std.specs.Prelude.{◌≡◌, ◌+◌, ◌/◌, ◌≤◌, ◌++◌, length, take, drop};
 ghost use Rattle.answer.specs.Outcome.{and_then, mapped};
 ghost use Rattle.answer.specs.Counted.{counted};

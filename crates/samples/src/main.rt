@@ -5,6 +5,8 @@
 // both versions, listed and then read with both allowed; the opening of that record of file 12;
 // document 01's cases that are not proved, 6 (depths 8 and 9) and 9 (windows at the end of a waveform
 // row); and rows of two files, an original and its substitute, with their bytes.
+#![tactic(auto)]
+
 use answer::{Address, Count, Nesting, Part, Refusal, Show, Shown};
 use label::Versions;
 use libc::STDOUT_FILENO;

@@ -2,6 +2,8 @@
 // for such an object is SFDU), and the nested search of a file, which goes through all of its labels,
 // counts its rows and marks one of them. Renders document 01, "The label", from the nesting on. The
 // calls by it, the forward walk, indexes and windows are left to the crates above.
+#![tactic(auto)]
+
 ghost use Rattle.std.specs.Prelude.{◌≡◌, ◌+◌, ◌-◌, ◌≤◌, ◌<◌, length};
 ghost use Rattle.answer.specs.Size.{largest_file};
 ghost use Rattle.answer.specs.Outcome.{mapped};

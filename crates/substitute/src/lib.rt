@@ -1,6 +1,8 @@
 // A row of a substitute file, or of the original: which of the two serves, and the row's bytes, lent
 // again from that file and not copied. Renders document 02, item 6. Files are checked and rows read
 // by `reader`, whose promises are all that is known of them here.
+#![tactic(auto)]
+
 ghost use Rattle.std.specs.Prelude.{◌≡◌};
 ghost use Rattle.answer.specs.Outcome.{mapped};
 ghost use Rattle.answer.specs.Window.{bytes_at};

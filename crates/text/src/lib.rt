@@ -1,6 +1,8 @@
 // Decimal digits: how a number is written with them and read from them. Renders the digits of the
 // label's length field and the numbers that document 01's list program prints, without leading
 // zeros. What stands around a number is left to the crates above.
+#![tactic(auto)]
+
 ghost use Rattle.std.specs.Prelude.{◌≡◌, ◌+◌, ◌%◌};
 ghost use Rattle.text.specs.Decimal.{Spells, decimal_text};
 

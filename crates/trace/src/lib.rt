@@ -1,6 +1,8 @@
 // Which byte of a file stands behind a dot of a strip: its place, the byte, its tone, and whether the dot is
 // set. Renders document 02, item 7, for whoever asks it of a dot on the paper. Rows are found by `reader`; that
 // the lines which `plotter` draws have this dot is the theorem `strip_is_traced`.
+#![tactic(auto)]
+
 ghost use Rattle.std.specs.Prelude.{◌≡◌, ◌+◌, ◌<◌};
 ghost use Rattle.answer.specs.Outcome.{refuse};
 ghost use Rattle.answer.specs.Window.{shown};

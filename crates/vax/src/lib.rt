@@ -1,6 +1,8 @@
 // VAX F and D numbers (F_floating, D_floating) as 64-bit floats: document 01, "Numbers", document 02,
 // item 5, and source document 001, appendix B. A number stands in the first bytes of what is lent, and
 // the bytes after it are not looked at. Which bytes of a file hold a number is left to the caller.
+#![tactic(auto)]
+
 ghost use Rattle.std.specs.Prelude.{◌≡◌, ◌+◌, ◌*◌, ◌/◌, ◌^◌, ◌<◌, ◌≤◌, length};
 ghost use Rattle.std.specs.Float.Ieee.Nearest.{closest};
 ghost use Rattle.vax.specs.Decoded.{decoded};

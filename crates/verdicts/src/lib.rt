@@ -2,6 +2,8 @@
 // table has no such number. The numbers are elements of the TOPEX altimeter (document 01, the paragraph
 // below its table of limits) or fields of Cassini's short bursts (document 02, item 1). It reads no
 // file: the caller brings the number and the value.
+#![tactic(auto)]
+
 ghost use Rattle.std.specs.Prelude.{◌≡◌};
 ghost use Rattle.answer.specs.Outcome.{answer};
 ghost use Rattle.limits.specs.Limits.{table_of};

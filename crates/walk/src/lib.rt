@@ -1,6 +1,8 @@
 // The forward walk through a labelled file from any place, with no memory of depth, and the row that
 // it comes to. Renders document 01, "The index and the jump" (how the jump walks). Indexes and windows
 // are left to the crates above.
+#![tactic(auto)]
+
 ghost use Rattle.std.specs.Prelude.{◌≡◌};
 ghost use Rattle.answer.specs.Outcome.{and_then};
 ghost use Rattle.answer.specs.Window.{shown};

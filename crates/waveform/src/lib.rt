@@ -6,6 +6,8 @@
 // The caller vouches for the kind of the file. The RPWS waveform receiver's product (WFR) has rows of the same 2,080
 // bytes with 1,024 samples of two bytes: nothing in the size of a file tells the two apart, and nothing here looks into
 // the prefix.
+#![tactic(auto)]
+
 ghost use Rattle.std.specs.Prelude.{◌≡◌, ℕ, ◌≤◌};
 ghost use Rattle.answer.specs.Outcome.{answer, mapped};
 ghost use Rattle.answer.specs.Size.{largest_file};
