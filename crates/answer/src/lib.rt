@@ -12,7 +12,7 @@ ghost use Rattle.answer.specs.Window.{fits, bytes_at};
 pub const LARGEST_FILE: usize = 4294967295;
 
 // The refusals of document 01's table, in its order, then those of document 02, which adds 17 later.
-#[derive(Drop)]
+#[derive(Clone, Copy)]
 pub enum Refusal {
     Short,
     BadLabel,
@@ -57,14 +57,14 @@ pub fn number(refusal: Refusal) -> usize
 }
 
 // A number (rows counted, bytes or entries written), or a refusal with its place.
-#[derive(Drop)]
+#[derive(Clone, Copy)]
 pub enum Count {
     Is(usize),
     Refused(Refusal, usize),
 }
 
 // A part of a lent file: the place of its first byte and how many bytes it has.
-#[derive(Drop)]
+#[derive(Clone, Copy)]
 pub struct Part {
     pub place: usize,
     pub count: usize,
@@ -72,7 +72,7 @@ pub struct Part {
 
 // How a row is nested: how deep its label stands, and the place of the outermost object that it lies
 // in, in this order. Absent where the row was come to without the labels around it.
-#[derive(Drop)]
+#[derive(Clone, Copy)]
 pub enum Nesting {
     Known(usize, usize),
     Absent,
@@ -80,7 +80,7 @@ pub enum Nesting {
 
 // Where a row is found again in its file: the place of its label, and how it is nested. A row without
 // a label has its own first byte for both places, at depth 0.
-#[derive(Drop)]
+#[derive(Clone, Copy)]
 pub struct Address {
     pub label: usize,
     pub nesting: Nesting,
@@ -88,14 +88,14 @@ pub struct Address {
 
 // What is shown of a row: a part of the lent file, and the row's address, which no window moves. Each
 // place is counted from the file's first byte.
-#[derive(Drop)]
+#[derive(Clone, Copy)]
 pub struct Shown {
     pub part: Part,
     pub address: Address,
 }
 
 // What a call shows of a row, or a refusal with its place.
-#[derive(Drop)]
+#[derive(Clone, Copy)]
 pub enum Show {
     Is(Shown),
     Refused(Refusal, usize),

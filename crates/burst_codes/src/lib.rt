@@ -8,7 +8,7 @@ ghost use Rattle.burst_codes.specs.Beams.{beams_in, beams_of};
 ghost use Rattle.burst_codes.specs.Modes.{mode_number, numbered};
 
 // How many beams a mask enables; a mask above 31 is none, and has no number of beams.
-#[derive(Drop)]
+#[derive(Clone, Copy)]
 pub enum Enabled {
     Inside(usize),
     Above,
@@ -16,7 +16,7 @@ pub enum Enabled {
 
 // The compression modes, in the order of section 8.2.n.34. Those named Baq are Block Adaptive
 // Quantization, from 8 bits to so many; those named Top keep so many of the most significant bits.
-#[derive(Drop)]
+#[derive(Clone, Copy)]
 pub enum Compression {
     Baq8To2,
     Baq8To1,

@@ -20,7 +20,7 @@ use verdicts::Judgement;
 
 // What a field holds: a number, the stored bits of a float of 4 or 8 bytes, or the part of the file
 // where a text stands, whose bytes `answer::bytes_of` lends; or a refusal with its place.
-#[derive(Drop)]
+#[derive(Clone, Copy)]
 pub enum Value {
     Unsigned(u32),
     Signed(i64),

@@ -11,7 +11,7 @@ ghost use Rattle.burst_layout.specs.Private.{type_of, size_of, Others, word_at, 
 use answer::Refusal;
 
 // A field's storage type in section 8.2: uint32, int32, float32, float64 and ASCII string.
-#[derive(Drop)]
+#[derive(Clone, Copy)]
 pub enum Storage {
     Unsigned,
     Signed,
@@ -22,7 +22,7 @@ pub enum Storage {
 
 // A field's position in section 8.1, the place of its first byte in the row, counted from 0, how many
 // bytes it has, and its type.
-#[derive(Drop)]
+#[derive(Clone, Copy)]
 pub struct Field {
     pub position: usize,
     pub place: usize,
@@ -31,7 +31,7 @@ pub struct Field {
 }
 
 // A field, or a refusal with its place.
-#[derive(Drop)]
+#[derive(Clone, Copy)]
 pub enum Found {
     Is(Field),
     Refused(Refusal, usize),

@@ -25,14 +25,14 @@ use verdicts::Judgement;
 
 // What every call across the boundary returns: a refusal's number and its place; 0 and 0 for an answer.
 #[repr(C)]
-#[derive(Drop)]
+#[derive(Clone, Copy)]
 pub struct Result {
     pub refusal: usize,
     pub place: usize,
 }
 
 // The version that has a number, or a refusal.
-#[derive(Drop)]
+#[derive(Clone, Copy)]
 pub enum Numbered {
     Is(Version),
     Refused(Refusal, usize),
@@ -168,7 +168,7 @@ pub fn side(answer: Judgement, number: &mut usize) -> Result
 
 // What a field holds, in numbers: that of its type, its bits, and of a text the place and how many
 // bytes it has.
-#[derive(Drop)]
+#[derive(Clone, Copy)]
 pub struct Stored {
     pub kind: usize,
     pub bits: usize,
@@ -177,7 +177,7 @@ pub struct Stored {
 }
 
 // These numbers, or a refusal.
-#[derive(Drop)]
+#[derive(Clone, Copy)]
 pub enum Told {
     Is(Stored),
     Refused(Refusal, usize),

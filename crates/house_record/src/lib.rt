@@ -113,7 +113,7 @@ pub fn put(front: &[u8], entries: &[u8], out: &mut [u8]) -> Count
         return Count::Refused(Refusal::Small, 0);
     }
     let size = at + entries.len();
-    bytes::copy(front, out);
-    bytes::copy(entries, &mut out[at..]);
+    out[..at].copy_from_slice(front);
+    out[at..size].copy_from_slice(entries);
     Count::Is(size)
 }

@@ -21,14 +21,14 @@ pub const COUNT: usize = 4;
 const ENTRIES: usize = 10;
 
 // What a record of kind 2 tells: how many rows the file has, and how many entries its index has.
-#[derive(Drop)]
+#[derive(Clone, Copy)]
 pub struct Loaded {
     pub rows: usize,
     pub entries: usize,
 }
 
 // An index that was read with its row count, or a refusal with its place.
-#[derive(Drop)]
+#[derive(Clone, Copy)]
 pub enum Read {
     Is(Loaded),
     Refused(Refusal, usize),

@@ -24,21 +24,21 @@ pub const HEAD: usize = 12;
 const FIELD: usize = 8;
 
 // The versions of the label: its length is in digits, or a binary number.
-#[derive(Drop)]
+#[derive(Clone, Copy)]
 pub enum Version {
     One,
     Two,
 }
 
 // Which versions a call allows.
-#[derive(Drop)]
+#[derive(Clone, Copy)]
 pub enum Versions {
     One,
     OneAndTwo,
 }
 
 // Four characters of a label: an agency or a description.
-#[derive(Drop)]
+#[derive(Clone, Copy)]
 pub struct Four {
     pub a: u8,
     pub b: u8,
@@ -49,7 +49,7 @@ pub struct Four {
 // What a label says. `length` is the number of bytes after the label: its value. `spaces` is how many
 // spaces stand before the length's digits, 0 to 7; in version 2 there are none. (In this order no
 // field crosses a word's end. With the length last, the compiler sends it through memory once more.)
-#[derive(Drop)]
+#[derive(Clone, Copy)]
 pub struct Label {
     pub agency: Four,
     pub description: Four,
@@ -60,7 +60,7 @@ pub struct Label {
 }
 
 // A label that was read, or refusal 1, 2 or 3.
-#[derive(Drop)]
+#[derive(Clone, Copy)]
 pub enum LabelRead {
     Is(Label),
     Refused(Refusal, usize),
@@ -68,7 +68,7 @@ pub enum LabelRead {
 
 // A version 1 length field that was read: the length, and the spaces before its digits. `Bad` where it
 // is not spaces and then digits, one at least.
-#[derive(Drop)]
+#[derive(Clone, Copy)]
 enum Field {
     Is(usize, u8),
     Bad,

@@ -106,7 +106,7 @@ pub fn write_label(version: Version, head: &[u8], length: usize, out: &mut [u8])
         return Count::Refused(Refusal::Small, 0);
     }
     let field = field_of(version, length);
-    bytes::copy(head, out);
-    bytes::copy(&field, &mut out[label::HEAD..]);
+    out[..label::HEAD].copy_from_slice(head);
+    out[label::HEAD..label::LABEL].copy_from_slice(&field);
     Count::Is(label::LABEL)
 }

@@ -10,7 +10,7 @@ ghost use Rattle.limits.specs.BurstLimits.{burst_table};
 ghost use Rattle.limits.specs.Limits.{table_of, line_of};
 
 // Which of the two tables.
-#[derive(Drop)]
+#[derive(Clone, Copy)]
 pub enum Table {
     Altimeter,
     Bursts,
@@ -18,11 +18,11 @@ pub enum Table {
 
 // A number, a minimum and a maximum. The number is an element's in section 4.4, or a field's position in
 // section 8.1, counted from 1.
-#[derive(Drop)]
+#[derive(Clone, Copy)]
 pub struct Limit(pub usize, pub i64, pub i64);
 
 // A line of a table, or that it has no such line.
-#[derive(Drop)]
+#[derive(Clone, Copy)]
 pub enum Line {
     Is(Limit),
     End,

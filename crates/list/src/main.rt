@@ -2,25 +2,24 @@
 // one line for each row, or says why it is refused.
 #![tactic(auto)]
 
-use libc::{STDIN_FILENO, STDOUT_FILENO};
+use std::io;
+use std::io::Write;
 
-// Prints the listing of a file, or says why it cannot.
-fn print(file: &[u8]) {
+// Prints the listing of a file.
+fn print(rt: &HostRuntime, file: &[u8]) -> io::Result<()> {
     let mut text = [0u8; 81920];
     let size = listing::write_listing(file, &mut text);
-    if !io::write_all(STDOUT_FILENO, &text[..size]) {
-        os::fail(b"standard output");
-    }
+    io::writer(rt).write_all(&text[..size])
 }
 
 // Reads one byte more than the largest file that is listed: whatever fills the memory is too big.
-fn main() {
+fn main(rt: HostRuntime) -> io::Result<()> {
     let mut memory = [0u8; 65537];
-    let input = input::read_up_to(STDIN_FILENO, &mut memory);
+    let mut standard_input = rt.stdin();
+    let input = input::read_up_to(&mut standard_input, &mut memory);
     if input.failed {
-        os::fail(b"standard input");
-        return;
+        return Err(io::Error::other("standard input"));
     }
     let size = input.size;
-    print(&memory[..size]);
+    print(&rt, &memory[..size])
 }

@@ -20,7 +20,7 @@ use label::{Four, Versions};
 use walk::{Leaf, Walked};
 
 // A line of text: the first `size` bytes. What stands behind them is left free.
-#[derive(Drop)]
+#[derive(Clone, Copy)]
 struct Line {
     bytes: [u8; 96],
     size: usize,
@@ -43,8 +43,8 @@ fn with(line: Line, piece: &[u8]) -> Line
 {
     let mut bytes = line.bytes;
     let at = line.size;
-    bytes::copy(piece, &mut bytes[at..]);
     let size = at + piece.len();
+    bytes[at..size].copy_from_slice(piece);
     Line {
         bytes: bytes,
         size: size,
@@ -126,8 +126,9 @@ fn put(line: Line, out: &mut [u8], at: usize) -> usize
 {
     let bytes = line.bytes;
     let size = line.size;
-    bytes::copy(&bytes[..size], &mut out[at..]);
-    at + size
+    let end = at + size;
+    out[at..end].copy_from_slice(&bytes[..size]);
+    end
 }
 
 // Puts the lines of an accepted file's rows at place `at` of `out`, walking on from each row to

@@ -13,7 +13,7 @@ use answer::Refusal;
 use vax::Decode;
 
 // The orbit's number, and when its mapping starts and stops, in TDB seconds from J2000.
-#[derive(Drop)]
+#[derive(Clone, Copy)]
 pub struct Opening {
     pub orbit: usize,
     pub start: f64,
@@ -21,7 +21,7 @@ pub struct Opening {
 }
 
 // An opening, or a refusal with its place.
-#[derive(Drop)]
+#[derive(Clone, Copy)]
 pub enum Open {
     Is(Opening),
     Refused(Refusal, usize),

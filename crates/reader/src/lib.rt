@@ -17,7 +17,7 @@ use answer::{Address, Count, Part, Refusal, Show, Shown};
 use label::Versions;
 
 // The kinds of file.
-#[derive(Drop)]
+#[derive(Clone, Copy)]
 pub enum Kind {
     // Objects with CCSDS labels of these versions, inside one another.
     Labelled(Versions),

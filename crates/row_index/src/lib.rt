@@ -23,21 +23,21 @@ use walk::Walked;
 pub const GROUP: usize = 16;
 
 // What the builder wrote: so many entries, for a file with so many rows.
-#[derive(Drop)]
+#[derive(Clone, Copy)]
 pub struct Built {
     pub entries: usize,
     pub rows: usize,
 }
 
 // An index that was built, or a refusal with its place.
-#[derive(Drop)]
+#[derive(Clone, Copy)]
 pub enum Build {
     Is(Built),
     Refused(Refusal, usize),
 }
 
 // A list that is the file's index, or a refusal with its place.
-#[derive(Drop)]
+#[derive(Clone, Copy)]
 pub enum Verified {
     Right,
     Refused(Refusal, usize),

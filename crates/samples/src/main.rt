@@ -9,205 +9,207 @@
 
 use answer::{Address, Count, Nesting, Part, Refusal, Show, Shown};
 use label::Versions;
-use libc::STDOUT_FILENO;
 use orbit::Open;
 use reader::Kind;
+use std::fs::File;
+use std::io;
+use std::io::Write;
 use substitute::{Choice, Chosen, Source};
 
 // How many bytes a waveform row has.
 const ROW: usize = 2080;
 
-fn print(text: &[u8]) {
-    io::write_all(STDOUT_FILENO, text);
+fn print(rt: &HostRuntime, text: &[u8]) -> io::Result<()> {
+    io::writer(rt).write_all(text)
 }
 
 // Prints a number after a space.
-fn print_number(n: usize) {
-    print(b" ");
-    io::print_decimal(STDOUT_FILENO, n as u64);
+fn print_number(rt: &HostRuntime, n: usize) -> io::Result<()> {
+    print!(rt; " {n}")
 }
 
 // Prints ` refused NUMBER PLACE`.
-fn print_refusal(why: Refusal, place: usize) {
-    print(b" refused");
-    print_number(answer::number(why));
-    print_number(place);
+fn print_refusal(rt: &HostRuntime, why: Refusal, place: usize) -> io::Result<()> {
+    print(rt, b" refused")?;
+    print_number(rt, answer::number(why))?;
+    print_number(rt, place)
 }
 
 // Prints the listing of a file.
-fn print_listing(file: &[u8]) {
+fn print_listing(rt: &HostRuntime, file: &[u8]) -> io::Result<()> {
     let mut text = [0u8; 81920];
     let size = listing::write_listing(file, &mut text);
-    print(&text[..size]);
+    print(rt, &text[..size])
 }
 
 // Prints a file's name and its listing. As in the list program, one byte more than the largest
 // file is asked for.
-fn list(name: &[u8]) {
-    print(name);
-    print(b"\n");
-    let fd = os::open_read(name);
-    if fd < 0 {
-        os::fail(name);
-        return;
-    }
+fn list(rt: &HostRuntime, name: &str) -> io::Result<()> {
+    print!(rt; "{name}\n")?;
+    let mut file = File::open(rt, name)?;
     let mut memory = [0u8; 65537];
-    let input = input::read_up_to(fd, &mut memory);
-    libc::close(fd);
+    let input = input::read_up_to(&mut file, &mut memory);
     if input.failed {
-        os::fail(name);
-        return;
+        return Err(io::Error::other(name));
     }
     let size = input.size;
-    print_listing(&memory[..size]);
+    print_listing(rt, &memory[..size])
 }
 
 // Prints a time of the sample record: 1 second before or after the epoch.
-fn print_time(time: f64) {
+fn print_time(rt: &HostRuntime, time: f64) -> io::Result<()> {
     if time == 1.0 {
-        print(b" 1");
-        return;
+        print(rt, b" 1")?;
+        return Ok(());
     }
     if time == -1.0 {
-        print(b" -1");
-        return;
+        print(rt, b" -1")?;
+        return Ok(());
     }
-    print(b" another");
+    print(rt, b" another")
 }
 
 // Prints the opening of a record of file 12: its data block begins 8 bytes into the value, after the
 // secondary header, and so 28 bytes after the label's first.
-fn print_opening(name: &[u8]) {
+fn print_opening(rt: &HostRuntime, name: &str) -> io::Result<()> {
     let mut memory = [0u8; 540];
-    let fd = os::open_read(name);
-    if fd < 0 {
-        os::fail(name);
-        return;
-    }
-    input::read_up_to(fd, &mut memory);
-    libc::close(fd);
-    print(b"opening");
+    let mut file = File::open(rt, name)?;
+    input::read_up_to(&mut file, &mut memory);
+    print(rt, b"opening")?;
     match orbit::per_orbit_opening(&memory[28..]) {
         Open::Is(opening) => {
-            print_number(opening.orbit);
-            print_time(opening.start);
-            print_time(opening.stop);
+            print_number(rt, opening.orbit)?;
+            print_time(rt, opening.start)?;
+            print_time(rt, opening.stop)?;
         }
-        Open::Refused(why, place) => print_refusal(why, place),
+        Open::Refused(why, place) => print_refusal(rt, why, place)?,
     }
-    print(b"\n");
+    print(rt, b"\n")
 }
 
 // Prints a row's depth and its outermost object's place, or that they are absent.
-fn print_nesting(nesting: Nesting) {
+fn print_nesting(rt: &HostRuntime, nesting: Nesting) -> io::Result<()> {
     match nesting {
         Nesting::Known(depth, outermost) => {
-            print_number(depth);
-            print_number(outermost);
+            print_number(rt, depth)?;
+            print_number(rt, outermost)?;
         }
-        Nesting::Absent => print(b" absent absent"),
+        Nesting::Absent => print(rt, b" absent absent")?,
     }
+    Ok(())
 }
 
 // Prints what is shown of a row, place, count and address, or the refusal.
-fn print_shown(shown: Show) {
+fn print_shown(rt: &HostRuntime, shown: Show) -> io::Result<()> {
     match shown {
         Show::Is(row) => {
-            print_number(row.part.place);
-            print_number(row.part.count);
+            print_number(rt, row.part.place)?;
+            print_number(rt, row.part.count)?;
             let address = row.address;
-            print_number(address.label);
+            print_number(rt, address.label)?;
             let nesting = address.nesting;
-            print_nesting(nesting);
+            print_nesting(rt, nesting)?;
         }
-        Show::Refused(why, place) => print_refusal(why, place),
+        Show::Refused(why, place) => print_refusal(rt, why, place)?,
     }
+    Ok(())
 }
 
 // Prints where row `k` of a labelled file is, with both versions of the label allowed.
-fn print_row(file: &[u8], k: usize) {
-    print(b"row");
-    print_number(k);
-    print(b":");
+fn print_row(rt: &HostRuntime, file: &[u8], k: usize) -> io::Result<()> {
+    print(rt, b"row")?;
+    print_number(rt, k)?;
+    print(rt, b":")?;
     let kind = Kind::Labelled(Versions::OneAndTwo);
-    print_shown(reader::read_row(kind, file, k, 0, 0));
-    print(b"\n");
+    print_shown(rt, reader::read_row(kind, file, k, 0, 0))?;
+    print(rt, b"\n")
 }
 
 // Prints how many rows a file has, with both versions of the label allowed, and where the first three
 // begin.
-fn print_both_versions(name: &[u8]) {
+fn print_both_versions(rt: &HostRuntime, name: &str) -> io::Result<()> {
     let mut memory = [0u8; 108];
-    let fd = os::open_read(name);
-    if fd < 0 {
-        os::fail(name);
-        return;
-    }
-    input::read_up_to(fd, &mut memory);
-    libc::close(fd);
-    print(b"both versions:");
+    let mut file = File::open(rt, name)?;
+    input::read_up_to(&mut file, &mut memory);
+    print(rt, b"both versions:")?;
     match reader::check(Kind::Labelled(Versions::OneAndTwo), &memory) {
-        Count::Is(rows) => print_number(rows),
-        Count::Refused(why, place) => print_refusal(why, place),
+        Count::Is(rows) => print_number(rt, rows)?,
+        Count::Refused(why, place) => print_refusal(rt, why, place)?,
     }
-    print(b"\n");
-    print_row(&memory, 0);
-    print_row(&memory, 1);
-    print_row(&memory, 2);
+    print(rt, b"\n")?;
+    print_row(rt, &memory, 0)?;
+    print_row(rt, &memory, 1)?;
+    print_row(rt, &memory, 2)
 }
 
 // Prints the window (a, c) of the one row of a waveform file, read and jumped to.
-fn print_window(a: usize, c: usize) {
+fn print_window(rt: &HostRuntime, a: usize, c: usize) -> io::Result<()> {
     let file = [0u8; ROW];
     let none = [0u32; 0];
-    print(b"window");
-    print_number(a);
-    print_number(c);
-    print(b": read");
-    print_shown(reader::read_row(Kind::Waveform, &file, 0, a, c));
-    print(b", jumped to");
-    print_shown(reader::jump_row(Kind::Waveform, &file, &none, 0, a, c));
-    print(b"\n");
+    print(rt, b"window")?;
+    print_number(rt, a)?;
+    print_number(rt, c)?;
+    print(rt, b": read")?;
+    print_shown(rt, reader::read_row(Kind::Waveform, &file, 0, a, c))?;
+    print(rt, b", jumped to")?;
+    print_shown(rt, reader::jump_row(Kind::Waveform, &file, &none, 0, a, c))?;
+    print(rt, b"\n")
 }
 
 // Prints a row that was chosen: of which file it is, its place, and its bytes.
-fn print_chosen<'a>(original: &'a [u8], substitute: &'a [u8], found: Chosen) {
+fn print_chosen<'a>(
+    rt: &HostRuntime,
+    original: &'a [u8],
+    substitute: &'a [u8],
+    found: Chosen,
+) -> io::Result<()> {
     let source = found.source;
     match source {
-        Source::Original => print(b" original"),
-        Source::Substitute => print(b" substitute"),
+        Source::Original => print(rt, b" original")?,
+        Source::Substitute => print(rt, b" substitute")?,
     }
     let row = found.row;
-    print_number(row.part.place);
-    print(b" ");
-    print(substitute::bytes_of(original, substitute, found));
-    print(b"\n");
+    print_number(rt, row.part.place)?;
+    print(rt, b" ")?;
+    print(rt, substitute::bytes_of(original, substitute, found))?;
+    print(rt, b"\n")
 }
 
 // Prints row `k` of a file with a substitute.
-fn print_either<'a>(original: &'a [u8], substitute: &'a [u8], k: usize) {
-    print(b"with a substitute, row");
-    print_number(k);
-    print(b":");
+fn print_either<'a>(
+    rt: &HostRuntime,
+    original: &'a [u8],
+    substitute: &'a [u8],
+    k: usize,
+) -> io::Result<()> {
+    print(rt, b"with a substitute, row")?;
+    print_number(rt, k)?;
+    print(rt, b":")?;
     match substitute::read_row(Versions::One, original, substitute, k) {
-        Choice::Is(found) => print_chosen(original, substitute, found),
+        Choice::Is(found) => print_chosen(rt, original, substitute, found)?,
         Choice::Refused(why, place) => {
-            print_refusal(why, place);
-            print(b"\n");
+            print_refusal(rt, why, place)?;
+            print(rt, b"\n")?;
         }
     }
+    Ok(())
 }
 
 // Prints rows of an original of two rows and a substitute of one: row 0, which both have; row 1; row 2,
 // which neither has; row 0 where a byte of the substitute is missing; and what lies in the original of
 // a part that runs past its end, which no call gave.
-fn print_substitutes() {
+fn print_substitutes(rt: &HostRuntime) -> io::Result<()> {
     let original = b"NJPL1I00DEMO00000003abcNJPL1I00DEMO00000002de";
     let substitute = b"CCSD1Z00000100000023NJPL1I00DEMO00000003xyz";
-    print_either(original, substitute, 0);
-    print_either(original, substitute, 1);
-    print_either(original, substitute, 2);
-    print_either(original, b"CCSD1Z00000100000023NJPL1I00DEMO00000003xy", 0);
+    print_either(rt, original, substitute, 0)?;
+    print_either(rt, original, substitute, 1)?;
+    print_either(rt, original, substitute, 2)?;
+    print_either(
+        rt,
+        original,
+        b"CCSD1Z00000100000023NJPL1I00DEMO00000003xy",
+        0,
+    )?;
     let row = Shown {
         part: Part {
             place: 44,
@@ -218,38 +220,39 @@ fn print_substitutes() {
             nesting: Nesting::Absent,
         },
     };
-    print(b"a row that no call gave:");
+    print(rt, b"a row that no call gave:")?;
     print_chosen(
+        rt,
         original,
         substitute,
         Chosen {
             source: Source::Original,
             row,
         },
-    );
+    )
 }
 
-fn main() {
-    list(b"empty.sfdu");
-    list(b"outer_length_42.sfdu");
-    list(b"inner_length_24.sfdu");
-    list(b"depth_8.sfdu");
-    list(b"depth_9.sfdu");
-    list(b"nested_33_rows.sfdu");
-    list(b"volume_header.sfdu");
-    list(b"volume_trailer.sfdu");
-    list(b"file_12_record.sfdu");
-    print_opening(b"file_12_record.sfdu");
-    list(b"pass_file.sfdu");
-    list(b"padded_lengths.sfdu");
-    list(b"inner_sets.sfdu");
-    list(b"inner_set_cut.sfdu");
-    list(b"both_versions.sfdu");
-    print_both_versions(b"both_versions.sfdu");
-    list(b"bytes_65536.sfdu");
-    list(b"bytes_65537.sfdu");
-    print_window(2048, 0);
-    print_window(2048, 1);
-    print_window(2049, 0);
-    print_substitutes();
+fn main(rt: HostRuntime) -> io::Result<()> {
+    list(&rt, "empty.sfdu")?;
+    list(&rt, "outer_length_42.sfdu")?;
+    list(&rt, "inner_length_24.sfdu")?;
+    list(&rt, "depth_8.sfdu")?;
+    list(&rt, "depth_9.sfdu")?;
+    list(&rt, "nested_33_rows.sfdu")?;
+    list(&rt, "volume_header.sfdu")?;
+    list(&rt, "volume_trailer.sfdu")?;
+    list(&rt, "file_12_record.sfdu")?;
+    print_opening(&rt, "file_12_record.sfdu")?;
+    list(&rt, "pass_file.sfdu")?;
+    list(&rt, "padded_lengths.sfdu")?;
+    list(&rt, "inner_sets.sfdu")?;
+    list(&rt, "inner_set_cut.sfdu")?;
+    list(&rt, "both_versions.sfdu")?;
+    print_both_versions(&rt, "both_versions.sfdu")?;
+    list(&rt, "bytes_65536.sfdu")?;
+    list(&rt, "bytes_65537.sfdu")?;
+    print_window(&rt, 2048, 0)?;
+    print_window(&rt, 2048, 1)?;
+    print_window(&rt, 2049, 0)?;
+    print_substitutes(&rt)
 }

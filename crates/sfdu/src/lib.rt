@@ -19,7 +19,7 @@ const DEPTHS: usize = 8;
 
 // An object of a part of a file: a leaf or an opened object, with the place in the part where it
 // ends, or why there is none.
-#[derive(Drop)]
+#[derive(Clone, Copy)]
 enum Object {
     Leaf(usize),
     Group(usize),
@@ -49,7 +49,7 @@ fn object_at(versions: Versions, part: &[u8], at: usize) -> Object
 }
 
 // A row that a search has marked: its label's place, its size, its depth, its outermost object's place.
-#[derive(Drop)]
+#[derive(Clone, Copy)]
 pub struct Mark {
     pub label: usize,
     pub size: usize,
@@ -58,21 +58,21 @@ pub struct Mark {
 }
 
 // What a search for row `k` has seen: how many rows, and row `k` once it is one of them.
-#[derive(Drop)]
+#[derive(Clone, Copy)]
 pub struct Seen {
     pub rows: usize,
     pub mark: Mark,
 }
 
 // What a search has seen at its end, or the fault that it met.
-#[derive(Drop)]
+#[derive(Clone, Copy)]
 pub enum Search {
     Is(Seen),
     Fault(Refusal, usize),
 }
 
 // The outermost object that the objects of a part lie in: each in itself, or all in the one at a place.
-#[derive(Drop)]
+#[derive(Clone, Copy)]
 enum Outer {
     Itself,
     At(usize),

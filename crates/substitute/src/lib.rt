@@ -15,21 +15,21 @@ use label::Versions;
 use reader::Kind;
 
 // Which of the two files.
-#[derive(Drop)]
+#[derive(Clone, Copy)]
 pub enum Source {
     Original,
     Substitute,
 }
 
 // A row, whole, and the file that it came from; its places are counted in that file.
-#[derive(Drop)]
+#[derive(Clone, Copy)]
 pub struct Chosen {
     pub source: Source,
     pub row: Shown,
 }
 
 // The row that was chosen, or a refusal with its place in the original.
-#[derive(Drop)]
+#[derive(Clone, Copy)]
 pub enum Choice {
     Is(Chosen),
     Refused(Refusal, usize),

@@ -7,7 +7,7 @@ ghost use Rattle.std.specs.Prelude.{◌≡◌, ◌+◌, ◌%◌};
 ghost use Rattle.text.specs.Decimal.{Spells, decimal_text};
 
 // A number's text: the bytes of `digits` from `first` on. What stands before them is left free.
-#[derive(Drop)]
+#[derive(Clone, Copy)]
 pub struct Numeral {
     pub digits: [u8; 20],
     pub first: usize,

@@ -14,7 +14,7 @@ use reader::Kind;
 
 // A dot of a strip: the place in the file of the byte behind it, the byte, its tone, and whether the dot is
 // set.
-#[derive(Drop)]
+#[derive(Clone, Copy)]
 pub struct Dot {
     pub place: usize,
     pub byte: u8,
@@ -23,7 +23,7 @@ pub struct Dot {
 }
 
 // The dot at a place of a strip, or a refusal with its place in the file.
-#[derive(Drop)]
+#[derive(Clone, Copy)]
 pub enum Trace {
     Is(Dot),
     Refused(Refusal, usize),

@@ -15,7 +15,7 @@ ghost use Rattle.vax.specs.Private.{patterned, below_sign_F, below_sign_D, BitsF
 use answer::Refusal;
 
 // A number's float, or a refusal with its place.
-#[derive(Drop)]
+#[derive(Clone, Copy)]
 pub enum Decode {
     Is(f64),
     Refused(Refusal, usize),

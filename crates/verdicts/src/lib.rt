@@ -15,7 +15,7 @@ use answer::Refusal;
 use limits::{Limit, Line, Table};
 
 // Where a value stands against its limits, or a refusal with its place.
-#[derive(Drop)]
+#[derive(Clone, Copy)]
 pub enum Judgement {
     Below,
     Inside,

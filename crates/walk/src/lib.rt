@@ -13,21 +13,21 @@ use answer::{Address, Nesting, Part, Refusal, Show, Shown};
 use label::{Label, LabelRead, Versions};
 
 // A leaf: the place of its label, and what the label says.
-#[derive(Drop)]
+#[derive(Clone, Copy)]
 pub struct Leaf {
     pub place: usize,
     pub label: Label,
 }
 
 // The leaf that a walk came to, or a refusal with its place.
-#[derive(Drop)]
+#[derive(Clone, Copy)]
 pub enum Walked {
     Is(Leaf),
     Refused(Refusal, usize),
 }
 
 // What a walk finds at a label: an opened object, or a leaf that ends inside the file.
-#[derive(Drop)]
+#[derive(Clone, Copy)]
 enum Step {
     Open,
     Closed(Label),
