@@ -1,0 +1,36 @@
+-- `field_from` meets its contract: a field that section 8.1 has lies in the row, and its size fits its type.
+use native.Mathlib.Omega.{arith}
+use mathlib.Core.Path.{◌∙◌, sym, ap}
+use Rattle.burst_layout.specs.Layout.{found}
+use Rattle.burst_layout.proofs.EndToEnd.{field_is_in_the_row, field_fits_its_type}
+use borrow.Author.Rules.{rules}
+use Rattle.burst_fields.proofs.field_from.Goals as goal
+
+-- GONE enum-known-line
+-- | enum_known_line : tie.Need-enum-known-line
+-- | enum_known_line c = search rules
+
+pub overflow_add-place : goal.overflow_add-place
+overflow_add-place c =
+    let line = c.line-1.given in
+    let q = sym c.line_of.ensures ∙ ap found line.1 in
+    omega (arith, c.requires, field_is_in_the_row c.args.position line.0.0 q, c.well-formed.1)
+
+pub content-requires : goal.content-requires
+content-requires c =
+    let line = c.line-1.given in
+    let q = sym c.line_of.ensures ∙ ap found line.1 in
+    (omega (arith, c.requires, field_is_in_the_row c.args.position line.0.0 q), field_fits_its_type c.args.position line.0.0 q)
+
+-- GONE enum-known-why
+-- | enum_known_why : tie.Need-enum-known-why
+-- | enum_known_why c = search rules
+
+pub returns-in-Is : goal.returns-in-Is
+returns-in-Is c =
+    let line = c.line-1.given in
+    let q = sym c.line_of.ensures ∙ ap found line.1 in
+    c.content.ensures ∙ simp q
+
+pub returns-in-Refused : goal.returns-in-Refused
+returns-in-Refused c = simp (sym c.line_of.ensures ∙ ap found c.in-Refused.is)

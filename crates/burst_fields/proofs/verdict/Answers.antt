@@ -1,0 +1,55 @@
+-- `verdict` meets its contract: by what the field holds.
+use native.Mathlib.Omega.{arith}
+use mathlib.Core.Path.{◌∙◌, sym, ap}
+use mir.Syntax.{w64}
+use mir.Facts.{to_z_pos, to_z-of_z}
+use Rattle.burst_fields.specs.Fields.{valued}
+use borrow.Author.Rules.{rules}
+use Rattle.burst_fields.proofs.verdict.Goals as goal
+
+-- GONE enum-known-n
+-- | enum_known_n : tie.Need-enum-known-n
+-- | enum_known_n c = search rules
+
+-- GONE enum-known-n-2
+-- | enum_known_n_2 : tie.Need-enum-known-n-2
+-- | enum_known_n_2 c = search rules
+
+-- GONE enum-told
+-- | enum_told : tie.Need-enum-told
+-- | enum_told c = search rules
+
+-- GONE enum-told-2
+-- | enum_told_2 : tie.Need-enum-told-2
+-- | enum_told_2 c = search rules
+
+-- GONE enum-told-3
+-- | enum_told_3 : tie.Need-enum-told-3
+-- | enum_told_3 c = search rules
+
+-- GONE enum-known-why
+-- | enum_known_why : tie.Need-enum-known-why
+-- | enum_known_why c = search rules
+
+pub returns-in-Unsigned : goal.returns-in-Unsigned
+returns-in-Unsigned c =
+    let n = c.n-1.given in
+    c.verdict.ensures ∙ simp (sym c.field.ensures ∙ ap valued n.1, to_z_pos w64 {n = n.0.0} (omega arith))
+
+pub returns-in-Signed : goal.returns-in-Signed
+returns-in-Signed c =
+    let n = c.n-in-Signed-1.given in
+    let g = c.known_told-in-Signed-1.given in
+    c.verdict-in-Signed.ensures ∙ sym (simp (sym c.field.ensures ∙ ap valued n.1, to_z-of_z {w = w64} {z = n.0.0} (record { sfits = g.0.1 })))
+
+pub returns-in-Float4 : goal.returns-in-Float4
+returns-in-Float4 c = simp (sym c.field.ensures ∙ ap valued c.in-Float4.is)
+
+pub returns-in-Float8 : goal.returns-in-Float8
+returns-in-Float8 c = simp (sym c.field.ensures ∙ ap valued c.in-Float8.is)
+
+pub returns-in-Text : goal.returns-in-Text
+returns-in-Text c = simp (sym c.field.ensures ∙ ap valued c.in-Text.is)
+
+pub returns-in-Refused : goal.returns-in-Refused
+returns-in-Refused c = simp (sym c.field.ensures ∙ ap valued c.in-Refused.is)

@@ -1,0 +1,6 @@
+-- `capi::crest_behind_waveform` meets its contract: the dot that `behind` traced, handed over.
+use borrow.Author.Rules.{rules}
+use Rattle.capi.proofs.crest_behind_waveform.Goals as goal
+
+pub returns : goal.returns
+returns c = rw c.behind.ensures at c.dot.ensures

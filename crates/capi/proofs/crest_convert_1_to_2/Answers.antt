@@ -1,0 +1,12 @@
+-- `capi::crest_convert_1_to_2` meets its contract: what `to_kind_2` wrote, and its count handed over.
+use Rattle.hand.proofs.Handing.{written_and_handed}
+use borrow.Author.Rules.{rules}
+use Rattle.capi.proofs.crest_convert_1_to_2.Goals as goal
+
+-- GONE same-length
+-- | same_length : tie.Need-same-length
+-- | same_length c = search rules
+
+pub returns : goal.returns
+returns c =
+    written_and_handed _ (rw c.choice.ensures at c.to_kind_2.ensures) c.count.ensures

@@ -1,0 +1,26 @@
+-- `capi::crest_joined_index` meets its contract: by what `join_index` answered; it leaves the list as promised.
+use mathlib.Core.Path.{◌∙◌, ap}
+use Rattle.answer.specs.Outcome.{Outcome}
+use Rattle.row_index.specs.declared.Built.{Built}
+use Rattle.hand.specs.Handed.{result_of, handed}
+use borrow.Author.Rules.{rules}
+use Rattle.capi.proofs.crest_joined_index.Goals as goal
+
+-- GONE same-length
+-- | same_length : tie.Need-same-length
+-- | same_length c = search rules
+
+pub returns : goal.returns
+returns c =
+    let a = c.args in
+    let told = rw c.choice.ensures at c.join_index.ensures in
+    let e = c.indexed.ensures in (
+      e.0 ∙ ap result_of told.0,
+      (
+        told.1,
+        (
+          e.1.0 ∙ ap (λ (o : Outcome Built). handed (λ b. b.entries) o a.entries.now) told.0,
+          e.1.1 ∙ ap (λ (o : Outcome Built). handed (λ b. b.rows) o a.rows.now) told.0,
+        ),
+      ),
+    )

@@ -1,0 +1,32 @@
+-- `capi::crest_substitute_row` meets its contract: by what `substitute::read_row` answered; `hand::row` hands over the row.
+use mathlib.Core.Path.{◌∙◌, sym, ap}
+use Rattle.label.specs.declared.Versions.{Versions}
+use Rattle.substitute.specs.Chosen.{chosen}
+use Rattle.substitute.specs.Substitute.{read_either}
+use Rattle.hand.proofs.Handing.{answered_result, answered_part, refused_result, refused_part}
+use borrow.Author.Rules.{rules}
+use Rattle.capi.proofs.crest_substitute_row.Goals as goal
+
+-- GONE enum-known-found
+-- | enum_known_found : tie.Need-enum-known-found
+-- | enum_known_found c = search rules
+
+-- GONE enum-known-why
+-- | enum_known_why : tie.Need-enum-known-why
+-- | enum_known_why c = search rules
+
+pub returns-in-Is : goal.returns-in-Is
+returns-in-Is c =
+    let a = c.args in
+    let told = ap (λ (v : Versions). read_either v a.original.now a.substitute.now a.row) (sym c.choice.ensures) in
+    let e = told ∙ sym c.read_row.ensures ∙ ap chosen c.in-Is.is in (
+      c.row.ensures.0 ∙ answered_result e,
+      (c.source_number.ensures ∙ answered_part _ _ e, c.row.ensures.1 ∙ answered_part _ _ e),
+    )
+
+pub returns-in-Refused : goal.returns-in-Refused
+returns-in-Refused c =
+    let a = c.args in
+    let told = ap (λ (v : Versions). read_either v a.original.now a.substitute.now a.row) (sym c.choice.ensures) in
+    let e = told ∙ sym c.read_row.ensures ∙ ap chosen c.in-Refused.is in
+    (c.refused.ensures ∙ refused_result e, (refused_part _ _ e, refused_part _ _ e))

@@ -1,0 +1,6 @@
+-- `capi::crest_vax_d` meets its contract: `hand::float` hands over what `vax::vax_d` promises.
+use borrow.Author.Rules.{rules}
+use Rattle.capi.proofs.crest_vax_d.Goals as goal
+
+pub returns : goal.returns
+returns c = rw c.vax_d.ensures.0 at c.float.ensures

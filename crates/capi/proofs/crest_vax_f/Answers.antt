@@ -1,0 +1,6 @@
+-- `capi::crest_vax_f` meets its contract: `hand::float` hands over what `vax::vax_f` promises.
+use borrow.Author.Rules.{rules}
+use Rattle.capi.proofs.crest_vax_f.Goals as goal
+
+pub returns : goal.returns
+returns c = rw c.vax_f.ensures.0 at c.float.ensures

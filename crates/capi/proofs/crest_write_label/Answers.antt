@@ -1,0 +1,53 @@
+-- `capi::crest_write_label` meets its contract: the version with the number, what `write_label` wrote, and its count handed over.
+use Prim.Native.Nat.{ℕ}
+use mathlib.Core.Path.{◌≡◌, ◌∙◌, sym, ap, subst}
+use mathlib.Core.List.{List}
+use lib.ListN.{length}
+use Rattle.answer.specs.Outcome.{Outcome, answer, refuse}
+use Rattle.answer.specs.Filled.{Writes, filled}
+use Rattle.answer.proofs.Outcomes.{after_answer, after_refusal}
+use Rattle.label.specs.declared.Version.{Version}
+use Rattle.label_writer.specs.Write.{write_label}
+use Rattle.hand.specs.Numbers.{numbered_version, version_read, write_numbered}
+use Rattle.hand.proofs.Handing.{refused_result, refused_part, written_and_handed}
+use borrow.Author.Rules.{rules}
+use Rattle.capi.proofs.crest_write_label.Goals as goal
+
+-- with a number that a version has, the writer told that version; else refused
+module _ (number : ℕ) (head : List ℕ) (n room : ℕ) where
+  told_version : (version : Version) → numbered_version number ≡ answer version → write_numbered number head n room ≡ write_label version head n room
+  unfolding write_numbered
+  told_version version e = after_answer (numbered_version number) _ version e
+
+  no_version : (why place : ℕ) → numbered_version number ≡ refuse why place → write_numbered number head n room ≡ refuse why place
+  unfolding write_numbered
+  no_version why place e = after_refusal (numbered_version number) _ why place e
+
+writes_as : {x y : Outcome (List ℕ)} {old new : List ℕ} {o : Outcome ℕ} → x ≡ y → Writes y old o new → Writes x old o new
+writes_as {x} {y} {old} {new} {o} e w = subst (λ (z : Outcome (List ℕ)). Writes z old o new) (sym e) w
+
+-- GONE enum-known-known
+-- | enum_known_known : tie.Need-enum-known-known
+-- | enum_known_known c = search rules
+
+-- GONE enum-known-why
+-- | enum_known_why : tie.Need-enum-known-why
+-- | enum_known_why c = search rules
+
+-- GONE same-length
+-- | same_length : tie.Need-same-length
+-- | same_length c = search rules
+
+pub returns-in-Is : goal.returns-in-Is
+returns-in-Is c =
+    let a = c.args in
+    let e = sym c.version_with.ensures ∙ ap version_read c.in-Is.is in
+    let is = told_version a.version a.head.now a.length (length a.out.now) _ e in
+    written_and_handed _ (writes_as is c.write_label.ensures) c.count.ensures
+
+pub returns-in-Refused : goal.returns-in-Refused
+returns-in-Refused c =
+    let a = c.args in
+    let e = sym c.version_with.ensures ∙ ap version_read c.in-Refused.is in
+    let is = no_version a.version a.head.now a.length (length a.out.now) _ _ e in
+    (c.refused.ensures ∙ refused_result is, (ap (λ (x : Outcome (List ℕ)). filled x a.out.now) (sym is), refused_part _ _ is))

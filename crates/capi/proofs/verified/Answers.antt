@@ -1,0 +1,20 @@
+-- `capi::verified` meets its contract: the result of what the check answered.
+use mathlib.Core.Path.{◌∙◌, ap}
+use Rattle.row_index.specs.Index.{accepted}
+use Rattle.hand.proofs.Handing.{answered_result, refused_result}
+use borrow.Author.Rules.{rules}
+use Rattle.capi.proofs.verified.Goals as goal
+
+-- GONE enum-told
+-- | enum_told : tie.Need-enum-told
+-- | enum_told c = search rules
+
+-- GONE enum-known-answer
+-- | enum_known_answer : tie.Need-enum-known-answer
+-- | enum_known_answer c = search rules
+
+pub returns-in-Right : goal.returns-in-Right
+returns-in-Right c = answered_result (ap accepted c.in-Right.is)
+
+pub returns-in-Refused : goal.returns-in-Refused
+returns-in-Refused c = c.refused.ensures ∙ refused_result (ap accepted c.in-Refused.is)

@@ -1,0 +1,31 @@
+-- `row_numbered` meets its contract: by the case of the check, then by the comparison of the number with the count.
+use mathlib.Core.Path.{◌∙◌, sym, ap}
+use borrow.Author.Rules.{rules}
+use borrow.Author.Tests.{lt-ltb, le-ltb}
+use Rattle.answer.specs.Counted.{counted}
+use Rattle.fixed_rows.proofs.row_numbered.Goals as goal
+
+-- GONE enum-known-rows
+-- | enum_known_rows : tie.Need-enum-known-rows
+-- | enum_known_rows c = search rules
+
+pub returns-then-k-rows : goal.returns-then-k-rows
+returns-then-k-rows c =
+    simp (
+      sym c.count.ensures ∙ ap counted c.in-Is.is,
+      lt-ltb _ _ c.if-k-rows.true,
+    )
+
+-- GONE enum-known-why
+-- | enum_known_why : tie.Need-enum-known-why
+-- | enum_known_why c = search rules
+
+pub returns-else-k-rows : goal.returns-else-k-rows
+returns-else-k-rows c =
+    simp (
+      sym c.count.ensures ∙ ap counted c.in-Is.is,
+      le-ltb _ _ c.if-k-rows.false,
+    )
+
+pub returns-in-Refused : goal.returns-in-Refused
+returns-in-Refused c = simp (sym c.count.ensures ∙ ap counted c.in-Refused.is)

@@ -1,0 +1,30 @@
+-- `start_from` meets its contract: by the case of the check, then by whether a row starts there.
+use mathlib.Core.Path.{◌∙◌, sym, ap}
+use borrow.Author.Rules.{rules}
+use Rattle.answer.specs.Counted.{counted}
+use Rattle.fixed_rows.proofs.start_from.Goals as goal
+
+-- GONE enum-told
+-- | enum_told : tie.Need-enum-told
+-- | enum_told c = search rules
+
+pub returns-then-row_starts : goal.returns-then-row_starts
+returns-then-row_starts c =
+    simp (
+      sym c.count.ensures ∙ ap counted c.in-Is.is,
+      sym c.row_starts.ensures ∙ c.if-row_starts.true,
+    )
+
+-- GONE enum-known-why
+-- | enum_known_why : tie.Need-enum-known-why
+-- | enum_known_why c = search rules
+
+pub returns-else-row_starts : goal.returns-else-row_starts
+returns-else-row_starts c =
+    simp (
+      sym c.count.ensures ∙ ap counted c.in-Is.is,
+      sym c.row_starts.ensures ∙ c.if-row_starts.false,
+    )
+
+pub returns-in-Refused : goal.returns-in-Refused
+returns-in-Refused c = simp (sym c.count.ensures ∙ ap counted c.in-Refused.is)

@@ -1,0 +1,22 @@
+-- `label_writer::field_of` meets its contract: by the version.
+use mathlib.Core.Path.{◌∙◌, sym, ap}
+use Rattle.label.specs.declared.Version.{Version}
+use Rattle.label_writer.specs.Write.{field_of}
+use borrow.Author.Rules.{rules}
+use Rattle.label_writer.proofs.field_of.Goals as goal
+
+-- GONE enum-told
+-- | enum_told : tie.Need-enum-told
+-- | enum_told c = search rules
+
+-- GONE enum-told-2
+-- | enum_told_2 : tie.Need-enum-told-2
+-- | enum_told_2 c = search rules
+
+pub returns-in-One : goal.returns-in-One
+returns-in-One c =
+    c.eight_digits.ensures ∙ ap (λ (v : Version). field_of v c.args.n) (sym c.in-One.is)
+
+pub returns-in-Two : goal.returns-in-Two
+returns-in-Two c =
+    c.eight_bytes.ensures ∙ ap (λ (v : Version). field_of v c.args.n) (sym c.in-Two.is)

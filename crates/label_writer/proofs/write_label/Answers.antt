@@ -1,0 +1,90 @@
+-- `label_writer::write_label` meets its contract: each refusal leaves the buffer as it was; else the head and the length field
+-- are its first twenty bytes.
+use native.Mathlib.Omega.{arith}
+use mathlib.Core.Path.{◌≡◌, ◌∙◌, sym, ap}
+use mathlib.Core.Bool.{true}
+use mathlib.Core.List.{List}
+use lib.ListN.{length, length-append}
+use lib.Dec.{eqb}
+use borrow.Author.Tests.{not-true, not-false, eqb-true}
+use Prim.Native.Nat.{ℕ}
+use Rattle.answer.proofs.Tests.{both_hold}
+use Rattle.answer.proofs.Writers.{refused_writes_nothing, written_to_the_front, two_pieces}
+use Rattle.label.specs.declared.Version.{Version}
+use Rattle.label.specs.Head.{head_good, is_head}
+use Rattle.label_writer.specs.Write.{field_of}
+use Rattle.label_writer.proofs.Writing.{length_field, no_head, too_long, too_small, written}
+use borrow.Author.Rules.{rules}
+use Rattle.label_writer.proofs.write_label.Goals as goal
+
+-- a head has twelve bytes
+twelve : (version : Version) (head : List ℕ) → is_head version head ≡ true → length head ≡ 12
+twelve version head good = eqb-true (length head) 12 (both_hold (eqb (length head) 12) (head_good version head) good).0
+
+pub returns-then-not-is_head : goal.returns-then-not-is_head
+returns-then-not-is_head c =
+    let a = c.args in
+    refused_writes_nothing a.out.now
+    (no_head a.version a.head.now a.length (length a.out.now) (sym c.is_head.ensures ∙ not-true _ c.if-not-is_head.true))
+
+pub returns-then-not-can_hold : goal.returns-then-not-can_hold
+returns-then-not-can_hold c =
+    let a = c.args in
+    let good = sym c.is_head.ensures ∙ not-false _ c.if-not-is_head.false in
+    refused_writes_nothing a.out.now
+    (too_long a.version a.head.now a.length (length a.out.now) good (sym c.can_hold.ensures ∙ not-true _ c.if-not-can_hold.true))
+
+pub returns-then-out-lt-LABEL : goal.returns-then-out-lt-LABEL
+returns-then-out-lt-LABEL c =
+    let a = c.args in
+    let good = sym c.is_head.ensures ∙ not-false _ c.if-not-is_head.false in
+    let held = sym c.can_hold.ensures ∙ not-false _ c.if-not-can_hold.false in
+    refused_writes_nothing a.out.now (too_small a.version a.head.now a.length (length a.out.now) good held c.if-out-lt-LABEL.true)
+
+-- GONE copy-requires
+-- | copy_requires : tie.Need-copy-requires
+-- | copy_requires c κs =
+-- |     let a = c.before.before.before.before.before.before.before.before.before.args in
+-- |     let good = sym c.before.before.before.before.before.before.is-head.ensures ∙ not-false _ c.before.before.before.before.before.if1.false in
+-- |     omega (arith, twelve a.version a.head.now good)
+
+-- GONE slice-aggregate-copy
+-- | slice_aggregate_copy : tie.Need-slice-aggregate-copy
+-- | slice_aggregate_copy c = search rules
+
+-- GONE overflow-sub-copy
+-- | sub_copy : tie.Need-overflow-sub-copy
+-- | sub_copy c = search rules
+
+-- GONE slice-bounds-copy-start
+-- | part_copy_start : tie.Need-slice-bounds-copy-start
+-- | part_copy_start c = search rules
+
+-- GONE slice-bounds-copy-end
+-- | part_copy_end : tie.Need-slice-bounds-copy-end
+-- | part_copy_end c = search rules
+
+-- GONE copy-requires-2
+-- | copy_requires_2 : tie.Need-copy-requires-2
+-- | copy_requires_2 c κs = search rules
+
+-- GONE same-length
+-- | same_length : tie.Need-same-length
+-- | same_length c = search rules
+
+pub returns : goal.returns
+returns c =
+    let a = c.args in
+    let head = a.head.now in
+    let old = a.out.now in
+    let good = sym c.is_head.ensures ∙ not-false _ c.if-not-is_head.false in
+    let held = sym c.can_hold.ensures ∙ not-false _ c.if-not-can_hold.false in
+    let front = c.copy.new.1.0 in
+    let back = c.copy2.new.1.0 in
+    let field = c.field_of-field.result in
+    let twelve_bytes = twelve a.version head good in
+    let writes = written a.version head a.length (length old) good held c.if-out-lt-LABEL.false in
+    let is : field ≡ field_of a.version a.length = c.field_of-field.ensures in
+    let eight = length_field a.version a.length in
+    rw (two_pieces head field old front back 12 twelve_bytes (omega (arith, ap length is, eight)) c.copy.ensures.1 c.copy2.ensures.1)
+    (rw is (written_to_the_front old 20 (length-append head (field_of a.version a.length) ∙ omega (arith, twelve_bytes, eight)) writes))

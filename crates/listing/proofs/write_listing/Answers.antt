@@ -1,0 +1,32 @@
+-- `listing::write_listing` meets its contract: the first line, then the rows' lines or nothing.
+use native.Mathlib.Omega.{arith}
+use mathlib.Core.Path.{◌∙◌, sym, ap}
+use Rattle.answer.specs.Counted.{counted}
+use Rattle.listing.proofs.Whole.{whole_line, head_is_short, rows_follow, nothing_follows}
+use borrow.Author.Rules.{rules}
+use Rattle.listing.proofs.write_listing.Goals as goal
+
+pub put-head-requires : goal.put-head-requires
+put-head-requires c = let whole = whole_line c.head_line.ensures in (whole, omega (arith, whole.fits))
+
+-- GONE enum-known-checked
+-- | enum_known_checked : tie.Need-enum-known-checked
+-- | enum_known_checked c = search rules
+
+pub put_rows-requires : goal.put_rows-requires
+put_rows-requires c =
+    let is = c.check_listed-checked.ensures in
+    let rows = ap counted c.in-Is.is in
+    (sym is ∙ rows, (head_is_short c.args.file.now is c.head_line.ensures c.put-head.ensures _ rows, search rules))
+
+-- GONE enum-told
+-- | enum_told : tie.Need-enum-told
+-- | enum_told c = search rules
+
+pub returns-in-Is : goal.returns-in-Is
+returns-in-Is c =
+    rows_follow c.args.file.now c.check_listed-checked.ensures c.head_line.ensures c.put-head.ensures c.put_rows.ensures
+
+pub returns-in-Refused : goal.returns-in-Refused
+returns-in-Refused c =
+    nothing_follows c.args.file.now c.check_listed-checked.ensures c.head_line.ensures c.put-head.ensures _ _ (ap counted c.in-Refused.is)

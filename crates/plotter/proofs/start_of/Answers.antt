@@ -1,0 +1,57 @@
+-- `plotter::start_of` meets its contract: by whether there is a row before the first one.
+use Prim.Native.Nat.{suc, ◌-◌}
+use native.Mathlib.Omega.{arith}
+use mathlib.Core.Path.{◌∙◌, sym, ap}
+use Rattle.answer.specs.Outcome.{answer, mapped}
+use Rattle.answer.specs.Counted.{counted}
+use Rattle.answer.specs.Window.{shown}
+use Rattle.reader.specs.Read.{beginning}
+use Rattle.reader.proofs.Found.{row_inside}
+use Rattle.reader.proofs.Rows.{reads_the_rows}
+use Rattle.plotter.specs.Private.{end_of, start_of}
+use borrow.Author.Rules.{rules}
+use Rattle.plotter.proofs.start_of.Goals as goal
+
+-- GONE enum-told
+-- | enum_told : tie.Need-enum-told
+-- | enum_told c = search rules
+
+-- GONE enum-known-why
+-- | enum_known_why : tie.Need-enum-known-why
+-- | enum_known_why c = search rules
+
+pub returns-in-Is : goal.returns-in-Is
+returns-in-Is c =
+    let a = c.args in
+    ap answer c.beginning.ensures
+    ∙ sym (ap (start_of a.kind a.file.now) c.if-first-eq0.true ∙ ap (mapped (λ rows. beginning a.kind)) (sym c.check.ensures ∙ ap counted c.in-Is.is))
+
+pub returns-in-Refused : goal.returns-in-Refused
+returns-in-Refused c =
+    let a = c.args in
+    sym (ap (start_of a.kind a.file.now) c.if-first-eq0.true ∙ ap (mapped (λ rows. beginning a.kind)) (sym c.check.ensures ∙ ap counted c.in-Refused.is))
+
+-- GONE enum-known-row
+-- | enum_known_row : tie.Need-enum-known-row
+-- | enum_known_row c = search rules
+
+pub overflow_add-end : goal.overflow_add-end
+overflow_add-end c =
+    let a = c.args in
+    omega (arith, row_inside a.kind a.file.now (a.first - 1) c.in-Is-whole_row.row (sym c.whole_row.ensures ∙ ap shown c.in-Is-whole_row.is), c.well-formed.1.0.0)
+
+-- GONE enum-known-why-2
+-- | enum_known_why_2 : tie.Need-enum-known-why-2
+-- | enum_known_why_2 c = search rules
+
+pub returns-in-Is-whole_row : goal.returns-in-Is-whole_row
+returns-in-Is-whole_row c =
+    let a = c.args in
+    sym (ap (start_of a.kind a.file.now) {x = a.first} {y = suc (a.first - 1)} (omega (arith, c.if-first-eq0.false))
+    ∙ ap (mapped end_of) (sym (reads_the_rows a.kind a.file.now (a.first - 1)) ∙ sym c.whole_row.ensures ∙ ap shown c.in-Is-whole_row.is))
+
+pub returns-in-Refused-whole_row : goal.returns-in-Refused-whole_row
+returns-in-Refused-whole_row c =
+    let a = c.args in
+    sym (ap (start_of a.kind a.file.now) {x = a.first} {y = suc (a.first - 1)} (omega (arith, c.if-first-eq0.false))
+    ∙ ap (mapped end_of) (sym (reads_the_rows a.kind a.file.now (a.first - 1)) ∙ sym c.whole_row.ensures ∙ ap shown c.in-Refused-whole_row.is))

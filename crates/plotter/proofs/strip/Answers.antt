@@ -1,0 +1,56 @@
+-- `plotter::strip` meets its contract: by whether it has rows, and where its first row is.
+use Prim.Native.Nat.{ℕ}
+use native.Mathlib.Omega.{arith}
+use mathlib.Core.Path.{◌∙◌, sym, ap, subst}
+use lib.ListN.{length}
+use Rattle.answer.specs.Outcome.{Outcome}
+use Rattle.answer.specs.Counted.{counted}
+use Rattle.answer.specs.Filled.{Writes}
+use Rattle.answer.proofs.Writers.{refused_writes_nothing}
+use Rattle.reader.specs.Rows.{check_file}
+use Rattle.plotter.specs.Strip.{strip_into}
+use Rattle.plotter.specs.Private.{Starts}
+use Rattle.plotter.proofs.Starting.{starts, no_start, no_rows, accepted_strip, nothing_written, written_as}
+use borrow.Author.Rules.{rules}
+use Rattle.plotter.proofs.strip.Goals as goal
+
+-- going on to the first row
+begun : (c : goal.In-Is-2) → Starts c.args.kind c.args.file.now c.args.first c.in-Is.start
+begun c =
+    let a = c.args in
+    starts a.kind a.file.now a.first c.in-Is.start (sym c.start_of.ensures ∙ ap counted c.in-Is.is)
+
+pub returns-then-rows-eq0 : goal.returns-then-rows-eq0
+returns-then-rows-eq0 c =
+    let a = c.args in
+    subst (λ (o : Outcome ℕ). Writes (strip_into (length a.out.now) a.kind a.file.now a.first a.rows a.a a.c) a.out.now o a.out.now) (sym c.nothing.ensures)
+    (nothing_written _ a.out.now (check_file a.kind a.file.now)
+    (ap (λ (n : ℕ). strip_into (length a.out.now) a.kind a.file.now a.first n a.a a.c) c.if-rows-eq0.true ∙ no_rows a.kind a.file.now (length a.out.now) a.first a.a a.c))
+
+-- GONE enum-known-start
+-- | enum_known_start : tie.Need-enum-known-start
+-- | enum_known_start c = search rules
+
+pub strip_from-requires : goal.strip_from-requires
+strip_from-requires c = (c.args.first, begun (goal.at.strip_from-requires c).In-Is-2)
+
+-- GONE enum-known-why
+-- | enum_known_why : tie.Need-enum-known-why
+-- | enum_known_why c = search rules
+
+-- GONE same-length
+-- | same_length : tie.Need-same-length
+-- | same_length c = search rules
+
+pub returns-in-Is : goal.returns-in-Is
+returns-in-Is c =
+    let a = c.args in
+    let s = begun (goal.at.returns-in-Is c).In-Is-2 in
+    written_as (accepted_strip a.kind a.file.now (length a.out.now) a.first a.rows a.a a.c s.rows s.accepted)
+    (c.strip_from.ensures a.first s)
+
+pub returns-in-Refused : goal.returns-in-Refused
+returns-in-Refused c =
+    let a = c.args in
+    refused_writes_nothing a.out.now
+    (no_start a.kind a.file.now (length a.out.now) a.first a.rows a.a a.c (omega (arith, c.if-rows-eq0.false)) _ _ (sym c.start_of.ensures ∙ ap counted c.in-Refused.is))

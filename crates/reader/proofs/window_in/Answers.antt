@@ -1,0 +1,30 @@
+-- `reader::window_in` meets its contract: by what was found, and by the test of the window.
+use native.Mathlib.Omega.{arith}
+use mathlib.Core.Path.{◌∙◌, sym, ap}
+use Rattle.answer.specs.Window.{shown}
+use Rattle.answer.proofs.Windows.{fitting_is_inside}
+use borrow.Author.Rules.{rules}
+use Rattle.reader.proofs.window_in.Goals as goal
+
+-- GONE enum-known-row
+-- | enum_known_row : tie.Need-enum-known-row
+-- | enum_known_row c = search rules
+
+pub overflow_add-place : goal.overflow_add-place
+overflow_add-place c =
+    let h = fitting_is_inside c.in-Is.found.part.count c.args.a c.args.c (sym c.window_fits.ensures ∙ c.if-window_fits.true) in
+    omega (arith, h, c.requires c.in-Is.found (ap shown c.in-Is.is))
+
+pub returns-then-window_fits : goal.returns-then-window_fits
+returns-then-window_fits c =
+    simp (ap shown c.in-Is.is, (sym c.window_fits.ensures ∙ c.if-window_fits.true))
+
+-- GONE enum-known-row-2
+-- | enum_known_row_2 : tie.Need-enum-known-row-2
+-- | enum_known_row_2 c = search rules
+
+pub returns-else-window_fits : goal.returns-else-window_fits
+returns-else-window_fits c = simp (ap shown c.in-Is.is, (sym c.window_fits.ensures ∙ c.if-window_fits.false))
+
+pub returns-in-Refused : goal.returns-in-Refused
+returns-in-Refused c = simp (ap shown c.in-Refused.is)

@@ -1,0 +1,63 @@
+-- `row_index::build_index` meets its contract: refused as the check refuses, no room, or the whole index at the front. What the
+-- check's count says is `is`, and that there are as many entries as groups is `all`.
+use native.Mathlib.Omega.{arith}
+use Prim.Native.Nat.{ℕ}
+use native.Mathlib.Nat.{le_of_eq}
+use mathlib.Core.Path.{◌≡◌, ◌∙◌, sym, ap}
+use mathlib.Core.List.{List, ◌++◌}
+use lib.ListN.{length, drop}
+use lib.Seq.{take_all}
+use Rattle.answer.specs.Outcome.{answer}
+use Rattle.answer.specs.Counted.{counted}
+use Rattle.sfdu.specs.Check.{check_labelled}
+use Rattle.sfdu.proofs.Checking.{accepted_says}
+use Rattle.row_index.specs.Private.{the_index}
+use Rattle.row_index.proofs.Building.{refused_build, index_at_the_front, rows_counted, entries_counted, no_room_to_build, index_is_built, not_built}
+use borrow.Author.Rules.{rules}
+use Rattle.row_index.proofs.build_index.Goals as goal
+
+is : (c : goal.In-Is-2) → check_labelled c.args.versions c.args.file.now ≡ answer c.in-Is.rows
+is c = sym c.check.ensures ∙ ap counted c.in-Is.is
+
+all : (c : goal.After-groups-entries) → length (the_index c.args.versions c.args.file.now) ≡ c.groups-entries.result
+all c = entries_counted c.args.versions c.args.file.now _ (is c.In-Is-2) ∙ sym c.groups-entries.ensures
+
+-- GONE enum-known-why
+-- | enum_known_why : tie.Need-enum-known-why
+-- | enum_known_why c = search rules
+
+-- GONE enum-known-rows
+-- | enum_known_rows : tie.Need-enum-known-rows
+-- | enum_known_rows c = search rules
+
+pub returns-then-list-entries : goal.returns-then-list-entries
+returns-then-list-entries c =
+    refused_build c.args.list.now
+    (no_room_to_build c.args.versions c.args.file.now _ (is (goal.at.returns-then-list-entries c).In-Is-2) _ (omega (arith, c.groups-entries.ensures, c.if-list-entries.true)))
+
+pub write_entries-requires : goal.write_entries-requires
+write_entries-requires c =
+    let (rows, accepted, many) = rows_counted c.args.versions c.args.file.now _ (is (goal.at.write_entries-requires c).In-Is-2) in
+    ((accepted_says c.args.versions c.args.file.now rows accepted).0, le_of_eq (sym (all (goal.at.write_entries-requires c).After-groups-entries)), c.if-list-entries.false)
+
+pub returns-in-Refused : goal.returns-in-Refused
+returns-in-Refused c =
+    refused_build c.args.list.now
+    (not_built c.args.versions c.args.file.now _ _ (sym c.check.ensures ∙ ap counted c.in-Refused.is) _)
+
+-- GONE same-length
+-- | same_length : tie.Need-same-length
+-- | same_length c = search rules
+
+pub returns-else-list-entries : goal.returns-else-list-entries
+returns-else-list-entries c =
+    let v = c.args.versions in
+    let f = c.args.file.now in
+    let old = c.args.list.now in
+    let entries = c.groups-entries.result in
+    let whole = all (goal.at.returns-else-list-entries c).After-groups-entries in
+    let (rows, builds, index, many) = index_is_built v f _ (is (goal.at.returns-else-list-entries c).In-Is-2) (length old) (omega (arith, c.groups-entries.ensures, c.if-list-entries.false)) in
+    index_at_the_front old _ (the_index v f) rows _ entries _ builds index whole many
+    (c.write_entries.ensures
+    ∙ ap (λ (t : List ℕ). t ++ drop entries old) (take_all entries (the_index v f) (le_of_eq whole))
+    ∙ ap (λ (m : ℕ). the_index v f ++ drop m old) (sym whole))

@@ -1,0 +1,36 @@
+-- `row_index::entry_from` meets its contract: the place of the leaf that the walk came to.
+use Prim.Native.Nat.{ℕ, ◌≤◌}
+use mathlib.Core.Path.{◌≡◌, ◌∙◌, sym, ap, subst}
+use mathlib.Core.List.{List}
+use lib.ListN.{length}
+use Rattle.answer.specs.Outcome.{Outcome}
+use Rattle.label.specs.declared.Versions.{Versions}
+use Rattle.walk.specs.declared.Leaf.{Leaf}
+use Rattle.row_index.proofs.Entries.{place_found_inside}
+use Rattle.walk.specs.Walk.{walked_to, walk_from}
+use Rattle.row_index.specs.Index.{place_found}
+use borrow.Author.Rules.{rules}
+use Rattle.row_index.proofs.entry_from.Goals as goal
+
+-- the place, and that it lies in the file
+found : (v : Versions) (f : List ℕ) (from k : ℕ) (o : Outcome Leaf) → walk_from v f from k ≡ o
+    → (place_found o ≡ place_found (walk_from v f from k)) × (place_found o ≤ length f)
+found v f from k o e = (ap place_found (sym e), subst (λ (r : Outcome Leaf). place_found r ≤ length f) e (place_found_inside v f from k))
+
+-- GONE enum-known-leaf
+-- | enum_known_leaf : tie.Need-enum-known-leaf
+-- | enum_known_leaf c = search rules
+
+-- GONE enum-told
+-- | enum_told : tie.Need-enum-told
+-- | enum_told c = search rules
+
+pub returns-in-Is : goal.returns-in-Is
+returns-in-Is c =
+    let a = c.args in
+    found a.versions a.file.now a.from a.leaves _ (sym c.walk_from.ensures ∙ ap walked_to c.in-Is.is)
+
+pub returns-in-Refused : goal.returns-in-Refused
+returns-in-Refused c =
+    let a = c.args in
+    found a.versions a.file.now a.from a.leaves _ (sym c.walk_from.ensures ∙ ap walked_to c.in-Refused.is)

@@ -1,0 +1,28 @@
+-- `trace::row_of_line` meets its contract: a row's number that passes 64 bits is beyond the last row.
+use Prim.Native.Nat.{◌+◌}
+use native.Mathlib.Omega.{arith}
+use mathlib.Core.Path.{◌∙◌, sym, ap}
+use Rattle.answer.specs.Counted.{counted}
+use Rattle.trace.proofs.OneDot.{past_the_last, of_a_refused_file}
+use borrow.Author.Rules.{rules}
+use Rattle.trace.proofs.row_of_line.Goals as goal
+
+-- GONE enum-known-rows
+-- | enum_known_rows : tie.Need-enum-known-rows
+-- | enum_known_rows c = search rules
+
+-- GONE enum-known-why
+-- | enum_known_why : tie.Need-enum-known-why
+-- | enum_known_why c = search rules
+
+pub returns-in-Is : goal.returns-in-Is
+returns-in-Is c =
+    let a = c.args in
+    c.no_row.ensures.0
+    ∙ sym (past_the_last a.kind a.file.now c.in-Is.rows (a.first + a.y) (sym c.check.ensures ∙ ap counted c.in-Is.is)
+    (omega (arith, c.no_row.ensures.1, c.if-first-y.true, c.ranges.first)))
+
+pub returns-in-Refused : goal.returns-in-Refused
+returns-in-Refused c =
+    let a = c.args in
+    sym (of_a_refused_file a.kind a.file.now _ _ (a.first + a.y) (sym c.check.ensures ∙ ap counted c.in-Refused.is))

@@ -1,0 +1,26 @@
+-- `vax::vax_d` meets its contract: `number` answers for the nearest eighth of the bits, which is the definition's float.
+use Prim.Native.Nat.{ℕ}
+use mathlib.Core.Path.{◌∙◌, sym, ap}
+use borrow.Author.Rules.{rules}
+use Rattle.vax.specs.Decoded.{decoded}
+use Rattle.vax.specs.Numbers.{by_exponent, nearest_D, vax_D}
+use Rattle.vax.specs.Nearest.{NearestD}
+use Rattle.vax.specs.Private.{patterned}
+use Rattle.vax.proofs.Cases.{too_short, never, both_clauses}
+use Rattle.vax.proofs.Mantissas.{from-D}
+use Rattle.vax.proofs.Nearest.{vax_D_nearest}
+use Rattle.vax.proofs.vax_d.Goals as goal
+
+pub returns-then-bytes-lt8 : goal.returns-then-bytes-lt8
+returns-then-bytes-lt8 c =
+    let s = c.args.bytes.now in
+    (sym (too_short (nearest_D s) s 8 c.if-bytes-lt8.true), λ x e. never 1 0 x e)
+
+pub returns : goal.returns
+returns c =
+    let bits = c.bits_d in
+    let s = c.args.bytes.now in
+    both_clauses (NearestD s) (vax_D s) (vax_D_nearest s bits.ensures.1.1) (decoded c.number.result)
+    (c.number.ensures
+    ∙ ap (λ (q : ℕ). by_exponent (patterned q s) s) c.nearest_eighth.ensures.0
+    ∙ from-D s bits.result bits.ensures.0 bits.ensures.1 c.if-bytes-lt8.false)

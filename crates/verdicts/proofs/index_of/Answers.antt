@@ -1,0 +1,33 @@
+-- `verdicts::index_of` meets its contract: the numbers that are searched are those of the named table's lines, which is compared
+-- by computing both.
+use borrow.Author.Rules.{rules}
+use Rattle.limits.specs.AltimeterLimits.{altimeter_table}
+use Rattle.limits.specs.BurstLimits.{burst_table}
+use Rattle.limits.specs.Limits.{table_of}
+use Rattle.limits.proofs.Named.{of_the_named}
+use Rattle.verdicts.specs.Private.{numbers_of, index_in}
+use Rattle.verdicts.proofs.index_of.Goals as goal
+
+-- GONE enum-told
+-- | enum_told : tie.Need-enum-told
+-- | enum_told c = search rules
+
+-- GONE slice-aggregate-index-in
+-- | slice_aggregate_index_in : tie.Need-slice-aggregate-index-in
+-- | slice_aggregate_index_in c = search rules
+
+-- GONE enum-told-2
+-- | enum_told_2 : tie.Need-enum-told-2
+-- | enum_told_2 c = search rules
+
+-- GONE slice-aggregate-index-in-2
+-- | slice_aggregate_index_in_2 : tie.Need-slice-aggregate-index-in-2
+-- | slice_aggregate_index_in_2 c = search rules
+
+pub returns-in-Altimeter : goal.returns-in-Altimeter
+unfolding altimeter_table
+returns-in-Altimeter c = of_the_named (λ t. index_in (numbers_of (table_of t)) c.args.number) c.in-Altimeter.is c.index_in.ensures
+
+pub returns-in-Bursts : goal.returns-in-Bursts
+unfolding burst_table
+returns-in-Bursts c = of_the_named (λ t. index_in (numbers_of (table_of t)) c.args.number) c.in-Bursts.is c.index_in-in-Bursts.ensures

@@ -1,0 +1,17 @@
+-- `find_row` meets its contract: the samples of the row that starts at the place found.
+use mathlib.Core.Path.{◌∙◌, sym, ap}
+use Rattle.answer.specs.Outcome.{mapped}
+use Rattle.fixed_rows.specs.Shape.{row_at}
+use Rattle.fixed_rows.proofs.Rows.{found_within}
+use Rattle.waveform.specs.Rows.{row_size, waveform}
+use Rattle.waveform.proofs.Rows.{takes_bytes}
+use borrow.Author.Rules.{rules}
+use Rattle.waveform.proofs.find_row.Goals as goal
+
+pub samples_from-requires : goal.samples_from-requires
+samples_from-requires c =
+    let a = c.args in
+    λ p e. found_within 0 row_size a.file.now a.k takes_bytes p (sym c.read_start.ensures ∙ e)
+
+pub returns : goal.returns
+returns c = c.samples_from.ensures ∙ ap (mapped (row_at waveform)) c.read_start.ensures
