@@ -13,45 +13,30 @@ use Rattle.burst_fields.proofs.Contents.{size_by_type, is_unsigned, is_signed, i
 use borrow.Author.Rules.{rules}
 use Rattle.burst_fields.proofs.content.Goals as goal
 
--- GONE enum-told
--- | enum_told : tie.Need-enum-told
--- | enum_told c = search rules
 
 pub four_at-requires : goal.four_at-requires
 four_at-requires c =
     let size = size_by_type c.args.stored Unsigned c.args.part.count c.requires.1 c.in-Unsigned.is in
     omega (arith, c.requires.0, size)
 
--- GONE enum-told-2
--- | enum_told_2 : tie.Need-enum-told-2
--- | enum_told_2 c = search rules
 
 pub four_at-requires-in-Signed : goal.four_at-requires-in-Signed
 four_at-requires-in-Signed c =
     let size = size_by_type c.args.stored Signed c.args.part.count c.requires.1 c.in-Signed.is in
     omega (arith, c.requires.0, size)
 
--- GONE enum-told-3
--- | enum_told_3 : tie.Need-enum-told-3
--- | enum_told_3 c = search rules
 
 pub four_at-requires-in-Float4 : goal.four_at-requires-in-Float4
 four_at-requires-in-Float4 c =
     let size = size_by_type c.args.stored Float4 c.args.part.count c.requires.1 c.in-Float4.is in
     omega (arith, c.requires.0, size)
 
--- GONE enum-told-4
--- | enum_told_4 : tie.Need-enum-told-4
--- | enum_told_4 c = search rules
 
 pub eight_at-requires : goal.eight_at-requires
 eight_at-requires c =
     let size = size_by_type c.args.stored Float8 c.args.part.count c.requires.1 c.in-Float8.is in
     omega (arith, c.requires.0, size)
 
--- GONE enum-told-5
--- | enum_told_5 : tie.Need-enum-told-5
--- | enum_told_5 c = search rules
 
 pub returns-in-Unsigned : goal.returns-in-Unsigned
 returns-in-Unsigned c =

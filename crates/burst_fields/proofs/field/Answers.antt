@@ -10,9 +10,6 @@ use Rattle.burst_fields.specs.Fields.{field_of}
 use borrow.Author.Rules.{rules}
 use Rattle.burst_fields.proofs.field.Goals as goal
 
--- GONE enum-known-row
--- | enum_known_row : tie.Need-enum-known-row
--- | enum_known_row c = search rules
 
 pub field_from-requires : goal.field_from-requires
 field_from-requires c =
@@ -22,9 +19,6 @@ field_from-requires c =
     let found = sym (jump_is_read s (takes_bytes a.first) a.file.now a.k) ∙ sym c.jump_to.ensures ∙ ap shown row.1 in
     omega (arith, row_inside s (takes_bytes a.first) a.file.now a.k row.0.0 found, row_has_its_size s a.file.now a.k row.0.0 found)
 
--- GONE enum-known-why
--- | enum_known_why : tie.Need-enum-known-why
--- | enum_known_why c = search rules
 
 pub returns-in-Is : goal.returns-in-Is
 unfolding field_of

@@ -6,9 +6,6 @@ use Rattle.burst_layout.proofs.EndToEnd.{field_is_in_the_row, field_fits_its_typ
 use borrow.Author.Rules.{rules}
 use Rattle.burst_fields.proofs.field_from.Goals as goal
 
--- GONE enum-known-line
--- | enum_known_line : tie.Need-enum-known-line
--- | enum_known_line c = search rules
 
 pub overflow_add-place : goal.overflow_add-place
 overflow_add-place c =
@@ -22,9 +19,6 @@ content-requires c =
     let q = sym c.line_of.ensures ∙ ap found line.1 in
     (omega (arith, c.requires, field_is_in_the_row c.args.position line.0.0 q), field_fits_its_type c.args.position line.0.0 q)
 
--- GONE enum-known-why
--- | enum_known_why : tie.Need-enum-known-why
--- | enum_known_why c = search rules
 
 pub returns-in-Is : goal.returns-in-Is
 returns-in-Is c =

@@ -7,29 +7,16 @@ use Rattle.burst_fields.specs.Fields.{valued}
 use borrow.Author.Rules.{rules}
 use Rattle.burst_fields.proofs.verdict.Goals as goal
 
--- GONE enum-known-n
--- | enum_known_n : tie.Need-enum-known-n
--- | enum_known_n c = search rules
 
--- GONE enum-known-n-2
--- | enum_known_n_2 : tie.Need-enum-known-n-2
--- | enum_known_n_2 c = search rules
 
--- GONE enum-told
--- | enum_told : tie.Need-enum-told
--- | enum_told c = search rules
 
--- GONE enum-told-2
--- | enum_told_2 : tie.Need-enum-told-2
--- | enum_told_2 c = search rules
 
--- GONE enum-told-3
--- | enum_told_3 : tie.Need-enum-told-3
--- | enum_told_3 c = search rules
 
--- GONE enum-known-why
--- | enum_known_why : tie.Need-enum-known-why
--- | enum_known_why c = search rules
+
+
+
+
+
 
 pub returns-in-Unsigned : goal.returns-in-Unsigned
 returns-in-Unsigned c =

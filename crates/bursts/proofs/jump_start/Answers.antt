@@ -8,9 +8,6 @@ use Rattle.fixed_rows.proofs.Rows.{numbered_inside}
 use Rattle.bursts.specs.Rows.{record_size}
 use Rattle.bursts.proofs.jump_start.Goals as goal
 
--- GONE enum-known-number
--- | enum_known_number : tie.Need-enum-known-number
--- | enum_known_number c = search rules
 
 pub record_start-requires : goal.record_start-requires
 record_start-requires c =
@@ -19,9 +16,6 @@ record_start-requires c =
     let there = numbered_inside a.first record_size a.file.now a.k number.0.0 (sym c.row_numbered.ensures ∙ ap counted number.1) in
     omega (arith, there, c.well-formed.1)
 
--- GONE enum-known-why
--- | enum_known_why : tie.Need-enum-known-why
--- | enum_known_why c = search rules
 
 pub returns-in-Is : goal.returns-in-Is
 returns-in-Is c = ap answer c.record_start.ensures ∙ simp (sym c.row_numbered.ensures ∙ ap counted c.in-Is.is)

@@ -10,13 +10,8 @@ use Rattle.bursts.specs.Rows.{record_size, bursts}
 use borrow.Author.Rules.{rules}
 use Rattle.bursts.proofs.record_at.Goals as goal
 
--- GONE enum-known-found
--- | enum_known_found : tie.Need-enum-known-found
--- | enum_known_found c = search rules
 
--- GONE enum-known-found-2
--- | enum_known_found_2 : tie.Need-enum-known-found-2
--- | enum_known_found_2 c = search rules
+
 
 pub returns-in-Is : goal.returns-in-Is
 returns-in-Is c =

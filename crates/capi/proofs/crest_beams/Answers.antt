@@ -5,20 +5,13 @@ use Rattle.hand.specs.Parts.{side_number, beams_handed}
 use borrow.Author.Rules.{rules}
 use Rattle.capi.proofs.crest_beams.Goals as goal
 
--- GONE enum-known-n
--- | enum_known_n : tie.Need-enum-known-n
--- | enum_known_n c = search rules
 
--- GONE enum-told
--- | enum_told : tie.Need-enum-told
--- | enum_told c = search rules
+
 
 pub returns-in-Inside : goal.returns-in-Inside
 returns-in-Inside c =
-    let e = sym c.beams.ensures ∙ ap beams_in c.in-Inside.is in
-    (ap (λ (m : MaskVerdict). side_number (verdict_in m)) (sym e), ap (λ (m : MaskVerdict). beams_handed m c.args.beams.now) (sym e))
+    let e = sym c.beams.ensures ∙ ap beams_in c.in-Inside.is in record { value = ap (λ (m : MaskVerdict). side_number (verdict_in m)) (sym e); beams_after = ap (λ (m : MaskVerdict). beams_handed m c.args.beams.now) (sym e) }
 
 pub returns-in-Above : goal.returns-in-Above
 returns-in-Above c =
-    let e = sym c.beams.ensures ∙ ap beams_in c.in-Above.is in
-    (ap (λ (m : MaskVerdict). side_number (verdict_in m)) (sym e), ap (λ (m : MaskVerdict). beams_handed m c.args.beams.now) (sym e))
+    let e = sym c.beams.ensures ∙ ap beams_in c.in-Above.is in record { value = ap (λ (m : MaskVerdict). side_number (verdict_in m)) (sym e); beams_after = ap (λ (m : MaskVerdict). beams_handed m c.args.beams.now) (sym e) }

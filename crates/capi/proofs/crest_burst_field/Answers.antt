@@ -6,20 +6,13 @@ use Rattle.hand.proofs.Handing.{answered_result, answered_part, refused_result, 
 use borrow.Author.Rules.{rules}
 use Rattle.capi.proofs.crest_burst_field.Goals as goal
 
--- GONE enum-known-f
--- | enum_known_f : tie.Need-enum-known-f
--- | enum_known_f c = search rules
 
--- GONE enum-known-why
--- | enum_known_why : tie.Need-enum-known-why
--- | enum_known_why c = search rules
+
 
 pub returns-in-Is : goal.returns-in-Is
 returns-in-Is c =
-    let e = sym (c.in_numbers.ensures ∙ ap (mapped in_numbers) c.field.ensures) ∙ ap told c.in-Is.is in
-    (answered_result e, (answered_part _ _ e, (answered_part _ _ e, (answered_part _ _ e, answered_part _ _ e))))
+    let e = sym (c.in_numbers.ensures ∙ ap (mapped in_numbers) c.field.ensures) ∙ ap told c.in-Is.is in record { value = answered_result e; kind_after = answered_part _ _ e; bits_after = answered_part _ _ e; place_after = answered_part _ _ e; shown_after = answered_part _ _ e }
 
 pub returns-in-Refused : goal.returns-in-Refused
 returns-in-Refused c =
-    let e = sym (c.in_numbers.ensures ∙ ap (mapped in_numbers) c.field.ensures) ∙ ap told c.in-Refused.is in
-    (c.refused.ensures ∙ refused_result e, (refused_part _ _ e, (refused_part _ _ e, (refused_part _ _ e, refused_part _ _ e))))
+    let e = sym (c.in_numbers.ensures ∙ ap (mapped in_numbers) c.field.ensures) ∙ ap told c.in-Refused.is in record { value = c.refused.ensures ∙ refused_result e; kind_after = refused_part _ _ e; bits_after = refused_part _ _ e; place_after = refused_part _ _ e; shown_after = refused_part _ _ e }

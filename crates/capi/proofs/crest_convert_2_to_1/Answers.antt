@@ -3,9 +3,6 @@ use Rattle.hand.proofs.Handing.{written_and_handed}
 use borrow.Author.Rules.{rules}
 use Rattle.capi.proofs.crest_convert_2_to_1.Goals as goal
 
--- GONE same-length
--- | same_length : tie.Need-same-length
--- | same_length c = search rules
 
 pub returns : goal.returns
 returns c =

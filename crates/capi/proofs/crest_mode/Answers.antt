@@ -5,41 +5,22 @@ use Rattle.hand.specs.Parts.{mode_handed}
 use borrow.Author.Rules.{rules}
 use Rattle.capi.proofs.crest_mode.Goals as goal
 
--- GONE enum-told
--- | enum_told : tie.Need-enum-told
--- | enum_told c = search rules
 
--- GONE enum-told-2
--- | enum_told_2 : tie.Need-enum-told-2
--- | enum_told_2 c = search rules
 
--- GONE enum-told-3
--- | enum_told_3 : tie.Need-enum-told-3
--- | enum_told_3 c = search rules
 
--- GONE enum-told-4
--- | enum_told_4 : tie.Need-enum-told-4
--- | enum_told_4 c = search rules
 
--- GONE enum-told-5
--- | enum_told_5 : tie.Need-enum-told-5
--- | enum_told_5 c = search rules
 
--- GONE enum-told-6
--- | enum_told_6 : tie.Need-enum-told-6
--- | enum_told_6 c = search rules
 
--- GONE enum-told-7
--- | enum_told_7 : tie.Need-enum-told-7
--- | enum_told_7 c = search rules
 
--- GONE enum-told-8
--- | enum_told_8 : tie.Need-enum-told-8
--- | enum_told_8 c = search rules
 
--- GONE enum-told-9
--- | enum_told_9 : tie.Need-enum-told-9
--- | enum_told_9 c = search rules
+
+
+
+
+
+
+
+
 
 pub returns-in-Baq8To2 : goal.returns-in-Baq8To2
 returns-in-Baq8To2 c = ap mode_handed (sym (sym c.mode.ensures ∙ ap mode_number c.in-Baq8To2.is))

@@ -7,22 +7,15 @@ use Rattle.hand.proofs.Handing.{answered_result, answered_part, refused_result, 
 use borrow.Author.Rules.{rules}
 use Rattle.capi.proofs.crest_read_label.Goals as goal
 
--- GONE enum-known-l
--- | enum_known_l : tie.Need-enum-known-l
--- | enum_known_l c = search rules
 
--- GONE enum-known-why
--- | enum_known_why : tie.Need-enum-known-why
--- | enum_known_why c = search rules
+
 
 pub returns-in-Is : goal.returns-in-Is
 returns-in-Is c =
     let told_so = rw c.choice.ensures at c.read_label.ensures in
-    let e = sym told_so ∙ ap told c.in-Is.is in
-    (answered_result e, (answered_part _ _ e, (c.version_number-number.ensures ∙ answered_part (λ (l : Label). version_number l.version) _ e, (answered_part _ _ e, (answered_part _ _ e, (answered_part _ _ e, answered_part _ _ e))))))
+    let e = sym told_so ∙ ap told c.in-Is.is in record { value = answered_result e; agency_after = answered_part _ _ e; version_after = c.version_number-number.ensures ∙ answered_part (λ (l : Label). version_number l.version) _ e; class_after = answered_part _ _ e; description_after = answered_part _ _ e; length_after = answered_part _ _ e; spaces_after = answered_part _ _ e }
 
 pub returns-in-Refused : goal.returns-in-Refused
 returns-in-Refused c =
     let told_so = rw c.choice.ensures at c.read_label.ensures in
-    let e = sym told_so ∙ ap told c.in-Refused.is in
-    (c.refused.ensures ∙ refused_result e, (refused_part _ _ e, (refused_part (λ (l : Label). version_number l.version) _ e, (refused_part _ _ e, (refused_part _ _ e, (refused_part _ _ e, refused_part _ _ e))))))
+    let e = sym told_so ∙ ap told c.in-Refused.is in record { value = c.refused.ensures ∙ refused_result e; agency_after = refused_part _ _ e; version_after = refused_part (λ (l : Label). version_number l.version) _ e; class_after = refused_part _ _ e; description_after = refused_part _ _ e; length_after = refused_part _ _ e; spaces_after = refused_part _ _ e }

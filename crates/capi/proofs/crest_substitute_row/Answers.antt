@@ -7,26 +7,17 @@ use Rattle.hand.proofs.Handing.{answered_result, answered_part, refused_result, 
 use borrow.Author.Rules.{rules}
 use Rattle.capi.proofs.crest_substitute_row.Goals as goal
 
--- GONE enum-known-found
--- | enum_known_found : tie.Need-enum-known-found
--- | enum_known_found c = search rules
 
--- GONE enum-known-why
--- | enum_known_why : tie.Need-enum-known-why
--- | enum_known_why c = search rules
+
 
 pub returns-in-Is : goal.returns-in-Is
 returns-in-Is c =
     let a = c.args in
     let told = ap (λ (v : Versions). read_either v a.original.now a.substitute.now a.row) (sym c.choice.ensures) in
-    let e = told ∙ sym c.read_row.ensures ∙ ap chosen c.in-Is.is in (
-      c.row.ensures.0 ∙ answered_result e,
-      (c.source_number.ensures ∙ answered_part _ _ e, c.row.ensures.1 ∙ answered_part _ _ e),
-    )
+    let e = told ∙ sym c.read_row.ensures ∙ ap chosen c.in-Is.is in record { value = c.row.ensures.value ∙ answered_result e; source_after = c.source_number.ensures ∙ answered_part _ _ e; shown_after = c.row.ensures.numbers_after ∙ answered_part _ _ e }
 
 pub returns-in-Refused : goal.returns-in-Refused
 returns-in-Refused c =
     let a = c.args in
     let told = ap (λ (v : Versions). read_either v a.original.now a.substitute.now a.row) (sym c.choice.ensures) in
-    let e = told ∙ sym c.read_row.ensures ∙ ap chosen c.in-Refused.is in
-    (c.refused.ensures ∙ refused_result e, (refused_part _ _ e, refused_part _ _ e))
+    let e = told ∙ sym c.read_row.ensures ∙ ap chosen c.in-Refused.is in record { value = c.refused.ensures ∙ refused_result e; source_after = refused_part _ _ e; shown_after = refused_part _ _ e }

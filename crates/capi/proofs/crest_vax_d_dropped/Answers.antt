@@ -3,4 +3,4 @@ use borrow.Author.Rules.{rules}
 use Rattle.capi.proofs.crest_vax_d_dropped.Goals as goal
 
 pub returns : goal.returns
-returns c = rw c.vax_d_dropped.ensures.0 at c.float.ensures
+returns c = rw c.vax_d_dropped.ensures.result_value at c.float.ensures

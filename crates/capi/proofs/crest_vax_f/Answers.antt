@@ -3,4 +3,4 @@ use borrow.Author.Rules.{rules}
 use Rattle.capi.proofs.crest_vax_f.Goals as goal
 
 pub returns : goal.returns
-returns c = rw c.vax_f.ensures.0 at c.float.ensures
+returns c = rw c.vax_f.ensures.result_value at c.float.ensures

@@ -26,17 +26,10 @@ module _ (number : ℕ) (head : List ℕ) (n room : ℕ) where
 writes_as : {x y : Outcome (List ℕ)} {old new : List ℕ} {o : Outcome ℕ} → x ≡ y → Writes y old o new → Writes x old o new
 writes_as {x} {y} {old} {new} {o} e w = subst (λ (z : Outcome (List ℕ)). Writes z old o new) (sym e) w
 
--- GONE enum-known-known
--- | enum_known_known : tie.Need-enum-known-known
--- | enum_known_known c = search rules
 
--- GONE enum-known-why
--- | enum_known_why : tie.Need-enum-known-why
--- | enum_known_why c = search rules
 
--- GONE same-length
--- | same_length : tie.Need-same-length
--- | same_length c = search rules
+
+
 
 pub returns-in-Is : goal.returns-in-Is
 returns-in-Is c =
@@ -49,5 +42,4 @@ pub returns-in-Refused : goal.returns-in-Refused
 returns-in-Refused c =
     let a = c.args in
     let e = sym c.version_with.ensures ∙ ap version_read c.in-Refused.is in
-    let is = no_version a.version a.head.now a.length (length a.out.now) _ _ e in
-    (c.refused.ensures ∙ refused_result is, (ap (λ (x : Outcome (List ℕ)). filled x a.out.now) (sym is), refused_part _ _ is))
+    let is = no_version a.version a.head.now a.length (length a.out.now) _ _ e in record { value = c.refused.ensures ∙ refused_result is; out_after = ap (λ (x : Outcome (List ℕ)). filled x a.out.now) (sym is); written_after = refused_part _ _ is }

@@ -10,23 +10,17 @@ use Rattle.capi.proofs.dot.Goals as goal
 same_numbers : {v v' t t' s s' : ℕ} (place : ℕ) → v ≡ v' → t ≡ t' → s ≡ s' → place ∷ v ∷ t ∷ s ∷ [] ≡ place ∷ v' ∷ t' ∷ s' ∷ []
 same_numbers place p q r = cc
 
--- GONE enum-known-answer
--- | enum_known_answer : tie.Need-enum-known-answer
--- | enum_known_answer c = search rules
 
--- GONE enum-known-answer-2
--- | enum_known_answer_2 : tie.Need-enum-known-answer-2
--- | enum_known_answer_2 c = search rules
+
 
 pub returns-in-Is : goal.returns-in-Is
 returns-in-Is c =
-    let e = ap traced c.in-Is.is in (
-      answered_result e,
-      same_numbers c.in-Is.found.place c.wide-byte.ensures.0 c.wide-tone.ensures.0 c.dot_number-set.ensures
-          ∙ answered_part _ _ e,
-    )
+    let e = ap traced c.in-Is.is in record {
+      value = answered_result e;
+      numbers_after = same_numbers c.in-Is.found.place c.wide-byte.ensures.0 c.wide-tone.ensures.0 c.dot_number-set.ensures
+          ∙ answered_part _ _ e;
+    }
 
 pub returns-in-Refused : goal.returns-in-Refused
 returns-in-Refused c =
-    let e = ap traced c.in-Refused.is in
-    (c.refused.ensures ∙ refused_result e, refused_part _ _ e)
+    let e = ap traced c.in-Refused.is in record { value = c.refused.ensures ∙ refused_result e; numbers_after = refused_part _ _ e }

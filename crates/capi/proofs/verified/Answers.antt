@@ -5,13 +5,8 @@ use Rattle.hand.proofs.Handing.{answered_result, refused_result}
 use borrow.Author.Rules.{rules}
 use Rattle.capi.proofs.verified.Goals as goal
 
--- GONE enum-told
--- | enum_told : tie.Need-enum-told
--- | enum_told c = search rules
 
--- GONE enum-known-answer
--- | enum_known_answer : tie.Need-enum-known-answer
--- | enum_known_answer c = search rules
+
 
 pub returns-in-Right : goal.returns-in-Right
 returns-in-Right c = answered_result (ap accepted c.in-Right.is)

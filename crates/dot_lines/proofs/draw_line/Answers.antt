@@ -20,9 +20,6 @@ returns-then-out-bytes c =
     (ap (λ (b : Bool). need b 8 (answer (line a.y a.samples.now)))
     (lt-leb (line_bytes (length a.samples.now)) (length a.out.now) (omega (arith, c.if-out-bytes.true, c.line_bytes-bytes.ensures))))
 
--- GONE same-length
--- | same_length : tie.Need-same-length
--- | same_length c = search rules
 
 pub returns : goal.returns
 unfolding line_into

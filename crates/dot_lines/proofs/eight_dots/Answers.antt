@@ -12,6 +12,7 @@ use Rattle.dot_lines.proofs.lanes.Reads as lanes_reads
 use Rattle.dot_lines.proofs.masked.Reads as masked_reads
 use Rattle.dot_lines.proofs.pair.Reads as Pair-reads
 use Rattle.dot_lines.proofs.eight_dots.Goals as goal
+use Rattle.dot_lines.proofs.eight_dots.Goals.{After-masked-of_odd}
 
 -- the calls' words, where the records of the places speak of them
 abbrev Start : Type 0

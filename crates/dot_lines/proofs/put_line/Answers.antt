@@ -11,9 +11,10 @@ use Rattle.answer.proofs.Writers.{Putting, nothing_put, one_put, same_long}
 use Rattle.dot_lines.specs.Line.{line_bytes, line_byte, line}
 use Rattle.dot_lines.proofs.Bytes.{line_long, line_at, line_put}
 use Rattle.dot_lines.proofs.put_line.Goals as goal
+use Rattle.dot_lines.proofs.put_line.Goals.{At-loop-j}
 
 -- the buffer keeps its length, and the next byte of the line is put
-module _ (c : goal.At-loop-j Inv μ) where
+module _ (c : At-loop-j Inv μ) where
   abbrev window : List ℕ
   window = c.args.samples.now
 
@@ -37,58 +38,43 @@ loop-j-init c =
     let a = c.args in
     (nothing_put (line a.y a.samples.now) a.out.now (line_bytes (length a.samples.now)), zero-le)
 
-
 pub full_byte-requires : goal.full_byte-requires
 full_byte-requires c = (omega (arith, c.loop-j-test.true), (c.args.y, c.cuts_from-even.ensures, c.cuts_from-odd.ensures))
-
 
 pub bounds-out-j : goal.bounds-out-j
 bounds-out-j c = omega (arith, long (goal.at.bounds-out-j c).At-loop-j, c.loop-j-test.true, c.requires)
 
-
 pub loop-j-smaller : goal.loop-j-smaller
 loop-j-smaller c = omega (arith, c.loop-j-test.true)
 
-
 pub loop-j-preserved : goal.loop-j-preserved
 loop-j-preserved c =
-    (goal.at.loop-j-preserved c).At-loop-jet room = c.loop-j-test.true in (
+    let room = c.loop-j-test.true in (
       one_more (goal.at.loop-j-preserved c).At-loop-j _ (omega (arith, room))
-          (c.full_byte.ensures (row (goal.at.loop-j-preserved c).At-loop-j) c.cuts_from-even.ensures c.cuts_from-odd.ensures ∙ sym ((goal.at.loop-j-preserved c).At-loop-jine_at (row (goal.at.loop-j-preserved c).At-loop-j) (window (goal.at.loop-j-preserved c).At-loop-j) c.loop-j.j (omega (arith, room)))),
+          (c.full_byte.ensures (row (goal.at.loop-j-preserved c).At-loop-j) c.cuts_from-even.ensures c.cuts_from-odd.ensures ∙ sym (line_at (row (goal.at.loop-j-preserved c).At-loop-j) (window (goal.at.loop-j-preserved c).At-loop-j) c.loop-j.j (omega (arith, room)))),
       omega (arith, room),
     )
 
-
 pub last_byte-requires : goal.last_byte-requires
 last_byte-requires c = (omega (arith, c.if-whole-samples.true), (c.args.y, c.cuts_from-even.ensures, c.cuts_from-odd.ensures))
-
 
 pub bounds-out-whole : goal.bounds-out-whole
 bounds-out-whole c = omega (arith, long (goal.at.bounds-out-whole c).At-loop-j, c.if-whole-samples.true, c.requires)
 
 
--- GONE same-length
--- | same_length : tie.Need-same-length Inv μ
--- | same_length c = length-set c.before.before.before.loop.out _ c.last_byte.result ∙ long c.before.before.before
-
 pub returns-then-whole-samples : goal.returns-then-whole-samples
 returns-then-whole-samples c =
-    (goal.at.returns-then-whole-samples c).At-loop-jet whole : (goal.at.returns-then-whole-samples c).At-loop-jength (window (goal.at.returns-then-whole-samples c).At-loop-j) / 8 ≡ c.loop-j.j = omega (arith, c.loop-j-test.false, c.loop-j.invariant.1) in
-    (goal.at.returns-then-whole-samples c).At-loop-jet more = c.if-whole-samples.true in
+    let whole : length (window (goal.at.returns-then-whole-samples c).At-loop-j) / 8 ≡ c.loop-j.j = omega (arith, c.loop-j-test.false, c.loop-j.invariant.1) in
+    let more = c.if-whole-samples.true in
     ap (λ (i : ℕ). set c.loop-j.out i c.last_byte.result) whole
-    ∙ (goal.at.returns-then-whole-samples c).At-loop-jine_put (row (goal.at.returns-then-whole-samples c).At-loop-j) (window (goal.at.returns-then-whole-samples c).At-loop-j) (old (goal.at.returns-then-whole-samples c).At-loop-j) (set c.loop-j.out c.loop-j.j c.last_byte.result) (c.loop-j.j + 1)
+    ∙ line_put (row (goal.at.returns-then-whole-samples c).At-loop-j) (window (goal.at.returns-then-whole-samples c).At-loop-j) (old (goal.at.returns-then-whole-samples c).At-loop-j) (set c.loop-j.out c.loop-j.j c.last_byte.result) (c.loop-j.j + 1)
     (one_more (goal.at.returns-then-whole-samples c).At-loop-j c.last_byte.result (omega (arith, whole, more))
     (c.last_byte.ensures (row (goal.at.returns-then-whole-samples c).At-loop-j) c.cuts_from-even.ensures c.cuts_from-odd.ensures
-    ∙ ap ((goal.at.returns-then-whole-samples c).At-loop-jine_byte (row (goal.at.returns-then-whole-samples c).At-loop-j) (window (goal.at.returns-then-whole-samples c).At-loop-j)) whole
-    ∙ sym ((goal.at.returns-then-whole-samples c).At-loop-jine_at (row (goal.at.returns-then-whole-samples c).At-loop-j) (window (goal.at.returns-then-whole-samples c).At-loop-j) c.loop-j.j (omega (arith, whole, more)))))
+    ∙ ap (line_byte (row (goal.at.returns-then-whole-samples c).At-loop-j) (window (goal.at.returns-then-whole-samples c).At-loop-j)) whole
+    ∙ sym (line_at (row (goal.at.returns-then-whole-samples c).At-loop-j) (window (goal.at.returns-then-whole-samples c).At-loop-j) c.loop-j.j (omega (arith, whole, more)))))
     (omega (arith, whole))
 
 
--- GONE same-length-2
--- | same_length_2 : tie.Need-same-length-2 Inv μ
--- | same_length_2 c = long c.before.before
-
 pub returns-else-whole-samples : goal.returns-else-whole-samples
 returns-else-whole-samples c =
-    (goal.at.returns-else-whole-samples c).At-loop-jine_put (row (goal.at.returns-else-whole-samples c).At-loop-j) (window (goal.at.returns-else-whole-samples c).At-loop-j) (old (goal.at.returns-else-whole-samples c).At-loop-j) c.loop-j.out c.loop-j.j c.loop-j.invariant.0 (omega (arith, c.if-whole-samples.false, c.loop-j-test.false))
-
+    line_put (row (goal.at.returns-else-whole-samples c).At-loop-j) (window (goal.at.returns-else-whole-samples c).At-loop-j) (old (goal.at.returns-else-whole-samples c).At-loop-j) c.loop-j.out c.loop-j.j c.loop-j.invariant.0 (omega (arith, c.if-whole-samples.false, c.loop-j-test.false))

@@ -7,10 +7,6 @@ use Rattle.dots.proofs.matrix_at.Goals as goal
 
 )
 
--- GONE array-read-wide
--- | -- src/lib.rt:362:18
--- | array_read_wide : tie.Need-array-read-wide
--- | array_read_wide c = search rules
 
 -- src/lib.rt:358:1
 pub returns : goal.returns
@@ -18,4 +14,3 @@ unfolding flat
 returns c = (
   c.wide.ensures.0 ∙ level_is c.args.y c.args.x,
   omega (arith, c.wide.ensures.0, below_64 c.args.y c.args.x),
-

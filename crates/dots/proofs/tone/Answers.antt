@@ -5,9 +5,6 @@ use Rattle.dots.specs.Tone as definition
 use Rattle.dots.proofs.Curve.{table, entry_is}
 use Rattle.dots.proofs.tone.Goals as goal
 
--- GONE array-read-result
--- | array_read_result : tie.Need-array-read-result
--- | array_read_result c = search rules
 
 pub returns : goal.returns
 unfolding table

@@ -4,13 +4,8 @@ use borrow.Author.Rules.{rules}
 use Rattle.answer.specs.Counted.{counted}
 use Rattle.fixed_rows.proofs.read_start.Goals as goal
 
--- GONE enum-told
--- | enum_told : tie.Need-enum-told
--- | enum_told c = search rules
 
--- GONE enum-known-why
--- | enum_known_why : tie.Need-enum-known-why
--- | enum_known_why c = search rules
+
 
 pub returns-in-Is : goal.returns-in-Is
 returns-in-Is c =

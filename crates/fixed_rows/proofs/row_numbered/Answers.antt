@@ -5,9 +5,6 @@ use borrow.Author.Tests.{lt-ltb, le-ltb}
 use Rattle.answer.specs.Counted.{counted}
 use Rattle.fixed_rows.proofs.row_numbered.Goals as goal
 
--- GONE enum-known-rows
--- | enum_known_rows : tie.Need-enum-known-rows
--- | enum_known_rows c = search rules
 
 pub returns-then-k-rows : goal.returns-then-k-rows
 returns-then-k-rows c =
@@ -16,9 +13,6 @@ returns-then-k-rows c =
       lt-ltb _ _ c.if-k-rows.true,
     )
 
--- GONE enum-known-why
--- | enum_known_why : tie.Need-enum-known-why
--- | enum_known_why c = search rules
 
 pub returns-else-k-rows : goal.returns-else-k-rows
 returns-else-k-rows c =

@@ -13,9 +13,6 @@ returns-then-bytes-from c = sym (behind _ _ _ _ c.if-from-first.false c.if-bytes
 pub returns-then-step-eq0 : goal.returns-then-step-eq0
 returns-then-step-eq0 c = sym (by_no_bytes _ _ _ _ c.if-from-first.false c.if-bytes-from.false c.if-step-eq0.true)
 
--- GONE nonzero-rem-result
--- | rem_result : tie.Need-nonzero-rem-result
--- | rem_result c = search rules
 
 pub returns : goal.returns
 returns c = sym (by_whole_rows _ _ _ _ c.if-from-first.false c.if-bytes-from.false)

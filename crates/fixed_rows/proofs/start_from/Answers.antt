@@ -4,9 +4,6 @@ use borrow.Author.Rules.{rules}
 use Rattle.answer.specs.Counted.{counted}
 use Rattle.fixed_rows.proofs.start_from.Goals as goal
 
--- GONE enum-told
--- | enum_told : tie.Need-enum-told
--- | enum_told c = search rules
 
 pub returns-then-row_starts : goal.returns-then-row_starts
 returns-then-row_starts c =
@@ -15,9 +12,6 @@ returns-then-row_starts c =
       sym c.row_starts.ensures ∙ c.if-row_starts.true,
     )
 
--- GONE enum-known-why
--- | enum_known_why : tie.Need-enum-known-why
--- | enum_known_why c = search rules
 
 pub returns-else-row_starts : goal.returns-else-row_starts
 returns-else-row_starts c =

@@ -10,16 +10,10 @@ returns-then-rest-eq0 c = sym (no_bytes _ _ c.if-step-eq0.true c.if-rest-eq0.tru
 pub returns-then-step-eq0 : goal.returns-then-step-eq0
 returns-then-step-eq0 c = sym (bytes_left _ _ c.if-step-eq0.true c.if-rest-eq0.false)
 
--- GONE nonzero-rem-if3
--- | rem_if3 : tie.Need-nonzero-rem-if3
--- | rem_if3 c = search rules
 
 pub returns-then-rest-step-ne0 : goal.returns-then-rest-step-ne0
 returns-then-rest-step-ne0 c = sym (not_whole _ _ c.if-rest-step-ne0.true)
 
--- GONE nonzero-div-t6
--- | div_t6 : tie.Need-nonzero-div-t6
--- | div_t6 c = search rules
 
 pub returns : goal.returns
 returns c = sym (whole _ _ c.if-rest-step-ne0.false)

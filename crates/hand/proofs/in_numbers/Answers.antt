@@ -11,29 +11,16 @@ use Rattle.hand.specs.Parts.{bits_of, in_numbers, told}
 use borrow.Author.Rules.{rules}
 use Rattle.hand.proofs.in_numbers.Goals as goal
 
--- GONE enum-known-value
--- | enum_known_value : tie.Need-enum-known-value
--- | enum_known_value c = search rules
 
--- GONE enum-known-value-2
--- | enum_known_value_2 : tie.Need-enum-known-value-2
--- | enum_known_value_2 c = search rules
 
--- GONE enum-known-value-3
--- | enum_known_value_3 : tie.Need-enum-known-value-3
--- | enum_known_value_3 c = search rules
 
--- GONE enum-known-value-4
--- | enum_known_value_4 : tie.Need-enum-known-value-4
--- | enum_known_value_4 c = search rules
 
--- GONE enum-known-value-5
--- | enum_known_value_5 : tie.Need-enum-known-value-5
--- | enum_known_value_5 c = search rules
 
--- GONE enum-known-value-6
--- | enum_known_value_6 : tie.Need-enum-known-value-6
--- | enum_known_value_6 c = search rules
+
+
+
+
+
 
 pub returns-in-Unsigned : goal.returns-in-Unsigned
 returns-in-Unsigned c =

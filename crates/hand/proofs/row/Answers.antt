@@ -18,37 +18,25 @@ in_six : (old : List ℕ) (s : Shown) {n : Nesting} → s.address.nesting ≡ n
 in_six old s e =
     ap (λ (n : Nesting). s.part.place ∷ s.part.count ∷ s.address.label ∷ nesting_number n ∷ depth_handed n (get_or old 4 0) ∷ outermost_handed n (get_or old 5 0) ∷ []) (sym e)
 
--- GONE enum-known-answer
--- | enum_known_answer : tie.Need-enum-known-answer
--- | enum_known_answer c = search rules
 
--- GONE enum-known-nesting
--- | enum_known_nesting : tie.Need-enum-known-nesting
--- | enum_known_nesting c = search rules
 
--- GONE enum-told
--- | enum_told : tie.Need-enum-told
--- | enum_told c = search rules
 
--- GONE enum-known-answer-2
--- | enum_known_answer_2 : tie.Need-enum-known-answer-2
--- | enum_known_answer_2 c = search rules
+
+
+
 
 pub returns-in-Known : goal.returns-in-Known
 returns-in-Known c =
     let old = c.args.numbers.now in
     let s = c.answer-1.given in
-    let e = ap shown s.1 in
-    (answered_result e, in_six old s.0.0 c.in-Known.is ∙ answered_part (row_numbers old) _ e)
+    let e = ap shown s.1 in record { value = answered_result e; numbers_after = in_six old s.0.0 c.in-Known.is ∙ answered_part (row_numbers old) _ e }
 
 pub returns-in-Absent : goal.returns-in-Absent
 returns-in-Absent c =
     let old = c.args.numbers.now in
     let s = c.answer-1.given in
-    let e = ap shown s.1 in
-    (answered_result e, in_six old s.0.0 c.in-Absent.is ∙ answered_part (row_numbers old) _ e)
+    let e = ap shown s.1 in record { value = answered_result e; numbers_after = in_six old s.0.0 c.in-Absent.is ∙ answered_part (row_numbers old) _ e }
 
 pub returns-in-Refused : goal.returns-in-Refused
 returns-in-Refused c =
-    let e = ap shown c.in-Refused.is in
-    (c.refused.ensures ∙ refused_result e, refused_part _ _ e)
+    let e = ap shown c.in-Refused.is in record { value = c.refused.ensures ∙ refused_result e; numbers_after = refused_part _ _ e }

@@ -12,12 +12,13 @@ use Rattle.house_record.specs.Record.{entries_of, is_kept}
 use Rattle.house_record.proofs.Entries.{length_entries}
 use Rattle.house_record.proofs.Reading.{Accepted, accepted, not_kept, no_room, loaded}
 use Rattle.house_record.proofs.load.Goals as goal
+use Rattle.house_record.proofs.load.Goals.{Else-not-is_record}
 
 -- past the first refusal the bytes are a record of this kind
-is_a_record : (c : goal.Else-not-is_record) → is_kept c.args.kind (6 + c.args.between) c.args.bytes.now ≡ true
-is_a_record c = sym c.is_record.ensures ∙ not-false _ c.if-not-is_record.false
+is_a_record : (c : Else-not-is_record) → is_kept c.args.kind (6 + c.args.between) c.args.bytes.now ≡ true
+is_a_record c = sym c.is_record.ensures ∙ c.if-not-is_record.false
 
-says : (c : goal.Else-not-is_record) → Accepted c.args.kind (6 + c.args.between) c.args.bytes.now
+says : (c : Else-not-is_record) → Accepted c.args.kind (6 + c.args.between) c.args.bytes.now
 says c =
     let a = c.args in
     accepted a.kind (6 + a.between) a.bytes.now (is_a_record c)
@@ -27,7 +28,7 @@ returns-then-not-is_record c =
     let a = c.args in
     let old = a.list.now in
     refused_writes_nothing old
-    (not_kept a.kind (6 + a.between) a.bytes.now (length old) (sym c.is_record.ensures ∙ not-true _ c.if-not-is_record.true))
+    (not_kept a.kind (6 + a.between) a.bytes.now (length old) (sym c.is_record.ensures ∙ c.if-not-is_record.true))
 
 pub overflow_add-first : goal.overflow_add-first
 overflow_add-first c = omega (arith, (says c).long)
@@ -47,9 +48,6 @@ take_entries-requires c =
     let record_says = says (goal.at.take_entries-requires c).Else-not-is_record in
     omega (arith, record_says.long, record_says.whole)
 
--- GONE same-length
--- | same_length : tie.Need-same-length
--- | same_length c = search rules
 
 pub returns : goal.returns
 returns c =

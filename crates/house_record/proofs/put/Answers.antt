@@ -27,29 +27,16 @@ returns-then-out-at-2 c =
     refused_writes_nothing old
     (no_room_for (length old) (front ++ entries) (omega (arith, length-append front entries, c.if-out-at-2.true)))
 
--- GONE copy-requires
--- | copy_requires : tie.Need-copy-requires
--- | copy_requires c κs = search rules
 
--- GONE overflow-sub-copy
--- | sub_copy : tie.Need-overflow-sub-copy
--- | sub_copy c = search rules
 
--- GONE slice-bounds-copy-start
--- | part_copy_start : tie.Need-slice-bounds-copy-start
--- | part_copy_start c = search rules
 
--- GONE slice-bounds-copy-end
--- | part_copy_end : tie.Need-slice-bounds-copy-end
--- | part_copy_end c = search rules
 
--- GONE copy-requires-2
--- | copy_requires_2 : tie.Need-copy-requires-2
--- | copy_requires_2 c κs = search rules
 
--- GONE same-length
--- | same_length : tie.Need-same-length
--- | same_length c = search rules
+
+
+
+
+
 
 pub returns : goal.returns
 returns c =
@@ -60,4 +47,4 @@ returns c =
     let both = length-append front entries in
     let fits : length front + length entries ≤ length old = omega (arith, c.if-out-at-2.false, c.if-out-at.false) in
     rw (two_pieces front entries old c.copy.new.1.0 c.copy2.new.1.0 (length front) refl fits c.copy.ensures.1 c.copy2.ensures.1)
-    (written_to_the_front old (length front + length entries) both ((goal.at.returns c).Else-out-at-2_for (length old) (front ++ entries) (omega (arith, both, fits))))
+    (written_to_the_front old (length front + length entries) both (room_for (length old) (front ++ entries) (omega (arith, both, fits))))

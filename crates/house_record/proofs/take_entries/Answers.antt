@@ -11,12 +11,13 @@ use Rattle.answer.proofs.Writers.{Putting, nothing_put, one_put, same_long, all_
 use Rattle.house_record.specs.Record.{entries_of}
 use Rattle.house_record.proofs.Entries.{length_entries, entry_place}
 use Rattle.house_record.proofs.take_entries.Goals as goal
+use Rattle.house_record.proofs.take_entries.Goals.{At-loop-i}
 
 -- the list keeps its length
-long : (c : goal.At-loop-i) → length c.loop-i.list ≡ length c.args.list.now
+long : (c : At-loop-i) → length c.loop-i.list ≡ length c.args.list.now
 long c =
     let a = c.args in
-    c.Startame_long (entries_of a.count (drop a.first a.bytes.now)) a.list.now a.count c.loop-i.list c.loop-i.i c.loop-i.invariant (le_of_eq (c.Startym (length_entries a.count (drop a.first a.bytes.now)))) c.requires.1
+    same_long (entries_of a.count (drop a.first a.bytes.now)) a.list.now a.count c.loop-i.list c.loop-i.i c.loop-i.invariant (le_of_eq (sym (length_entries a.count (drop a.first a.bytes.now)))) c.requires.1
 
 pub loop-i-init : goal.loop-i-init
 loop-i-init c =
@@ -31,12 +32,9 @@ loop-i-preserved c =
     let a = c.args in
     let i = c.loop-i.i in
     let xs = entries_of a.count (drop a.first a.bytes.now) in
-    one_put xs a.list.now a.count c.loop-i.list i c.loop-i.invariant (le_of_eq ((goal.at.loop-i-preserved c).Startym (length_entries a.count (drop a.first a.bytes.now)))) c.requires.1 c.four_at.result c.loop-i-test.true
-    (c.four_at.ensures ∙ (goal.at.loop-i-preserved c).Startym (entry_place a.first a.count i a.bytes.now c.loop-i-test.true))
+    one_put xs a.list.now a.count c.loop-i.list i c.loop-i.invariant (le_of_eq (sym (length_entries a.count (drop a.first a.bytes.now)))) c.requires.1 c.four_at.result c.loop-i-test.true
+    (c.four_at.ensures ∙ sym (entry_place a.first a.count i a.bytes.now c.loop-i-test.true))
 
--- GONE same-length
--- | same_length : tie.Need-same-length invariant_loop decreases_loop
--- | same_length c = long c.before
 
 pub returns : goal.returns
 returns c =

@@ -24,9 +24,6 @@ returns-then-out-size c =
     let old = a.out.now in
     refused_writes_nothing old (too_small a.list.now (length old) c.if-count-gt1073741823.false (omega (arith, c.if-out-size.true)))
 
--- GONE same-length
--- | same_length : tie.Need-same-length
--- | same_length c = search rules
 
 pub returns : goal.returns
 returns c =

@@ -29,9 +29,6 @@ loop-i-preserved c =
           ∙ one_entry_put c.args.out.now list at c.loop-i.i c.loop-i-test.true c.requires,
     )
 
--- GONE same-length
--- | same_length : tie.Need-same-length invariant_loop decreases_loop
--- | same_length c = search rules
 
 pub returns : goal.returns
 returns c =

@@ -9,9 +9,6 @@ use Rattle.kept.proofs.Putting.{put_after_put}
 use borrow.Author.Rules.{rules}
 use Rattle.kept.proofs.put_head.Goals as goal
 
--- GONE same-length
--- | same_length : tie.Need-same-length
--- | same_length c = search rules
 
 pub returns : goal.returns
 returns c =

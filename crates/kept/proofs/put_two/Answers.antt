@@ -10,9 +10,6 @@ use Rattle.kept.proofs.put_two.Goals as goal
 pub bounds-out-at-2 : goal.bounds-out-at-2
 bounds-out-at-2 c = simp length-set (omega arith)
 
--- GONE same-length
--- | same_length : tie.Need-same-length
--- | same_length c = search rules
 
 pub returns : goal.returns
 returns c =

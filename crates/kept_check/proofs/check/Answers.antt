@@ -15,13 +15,14 @@ use Rattle.kept_check.specs.Private.{rows_borne_out}
 use Rattle.kept_check.proofs.Borne.{borne, check_by_rows}
 use borrow.Author.Rules.{rules}
 use Rattle.kept_check.proofs.check.Goals as goal
+use Rattle.kept_check.proofs.check.Goals.{After-number_at-told, In-Is-2}
 
 -- the rows of a file that bears the list out
-are : (c : goal.In-Is-2) → rows_borne_out c.args.versions 2 10 c.args.file.now c.args.kept.now ≡ answer c.in-Is.rows
+are : (c : In-Is-2) → rows_borne_out c.args.versions 2 10 c.args.file.now c.args.kept.now ≡ answer c.in-Is.rows
 are c = sym c.rows_borne_out.ensures ∙ ap counted c.in-Is.is
 
 -- the check's answer, once the counts are compared
-judged : (c : goal.After-number_at-told) (t : Bool) → eqb c.number_at-told.result c.in-Is.rows ≡ t
+judged : (c : After-number_at-told) (t : Bool) → eqb c.number_at-told.result c.in-Is.rows ≡ t
     → need t 11 (answer tt) ≡ check_kept2 c.args.versions c.args.file.now c.args.kept.now
 judged c t e =
     let a = c.args in
@@ -34,13 +35,8 @@ judged c t e =
     (check_by_rows a.versions f s
     ∙ after_answer (rows_borne_out a.versions 2 10 f s) (λ m. need (eqb (le_number (bytes_at s 6 4)) m) 11 (answer tt)) n (are c.In-Is-2))
 
--- GONE enum-known-why
--- | enum_known_why : tie.Need-enum-known-why
--- | enum_known_why c = search rules
 
--- GONE enum-known-rows
--- | enum_known_rows : tie.Need-enum-known-rows
--- | enum_known_rows c = search rules
+
 
 pub returns-then-told-rows : goal.returns-then-told-rows
 returns-then-told-rows c = judged (goal.at.returns-then-told-rows c).After-number_at-told _ (ne_eqb _ _ c.if-told-rows.true)

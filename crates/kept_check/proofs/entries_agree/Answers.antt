@@ -12,15 +12,16 @@ use Rattle.house_record.proofs.Entries.{length_entries}
 use Rattle.house_record.proofs.Reading.{entry_from_place}
 use Rattle.kept_check.proofs.entries_agree.Invariants.{told}
 use Rattle.kept_check.proofs.entries_agree.Goals as goal
+use Rattle.kept_check.proofs.entries_agree.Goals.{After-entry_from-place, After-number_at-entry, At-loop-done}
 
 -- as many entries as the index has
-many : (c : goal.At-loop-done) → length (entries_of c.args.count (drop c.args.first c.args.kept.now)) ≡ c.args.count
+many : (c : At-loop-done) → length (entries_of c.args.count (drop c.args.first c.args.kept.now)) ≡ c.args.count
 many c =
     let a = c.args in
     length_entries a.count (drop a.first a.kept.now)
 
 -- the entry that the walk came to
-entry : (c : goal.After-entry_from-place) → Entry c.args.versions c.args.file.now c.loop-done.done c.entry_from-place.result
+entry : (c : After-entry_from-place) → Entry c.args.versions c.args.file.now c.loop-done.done c.entry_from-place.result
 entry c =
     let a = c.args in
     let v = a.versions in

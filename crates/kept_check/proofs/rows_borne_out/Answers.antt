@@ -17,32 +17,28 @@ use Rattle.house_record.proofs.Reading.{Accepted, accepted}
 use Rattle.kept_check.proofs.Borne.{not_accepted, no_record, compared}
 use borrow.Author.Rules.{rules}
 use Rattle.kept_check.proofs.rows_borne_out.Goals as goal
+use Rattle.kept_check.proofs.rows_borne_out.Goals.{Else-not-is_record, In-Is-2}
 
-is : (c : goal.In-Is-2) → check_labelled c.args.versions c.args.file.now ≡ answer c.in-Is.rows
+is : (c : In-Is-2) → check_labelled c.args.versions c.args.file.now ≡ answer c.in-Is.rows
 is c = sym c.check.ensures ∙ ap counted c.in-Is.is
 
-is_a_record : (c : goal.Else-not-is_record) → is_kept c.args.kind (6 + c.args.between) c.args.kept.now ≡ true
-is_a_record c = sym c.is_record.ensures ∙ not-false _ c.if-not-is_record.false
+is_a_record : (c : Else-not-is_record) → is_kept c.args.kind (6 + c.args.between) c.args.kept.now ≡ true
+is_a_record c = sym c.is_record.ensures ∙ c.if-not-is_record.false
 
-says : (c : goal.Else-not-is_record) → Accepted c.args.kind (6 + c.args.between) c.args.kept.now
+says : (c : Else-not-is_record) → Accepted c.args.kind (6 + c.args.between) c.args.kept.now
 says c =
     let a = c.args in
     accepted a.kind (6 + a.between) a.kept.now (is_a_record c)
 
--- GONE enum-known-why
--- | enum_known_why : tie.Need-enum-known-why
--- | enum_known_why c = search rules
 
--- GONE enum-known-rows
--- | enum_known_rows : tie.Need-enum-known-rows
--- | enum_known_rows c = search rules
+
 
 pub returns-then-not-is_record : goal.returns-then-not-is_record
 returns-then-not-is_record c =
     let a = c.args in
     sym
     (no_record a.versions a.kind (6 + a.between) a.file.now a.kept.now _ (is (goal.at.returns-then-not-is_record c).In-Is-2)
-    (sym c.is_record.ensures ∙ not-true _ c.if-not-is_record.true))
+    (sym c.is_record.ensures ∙ c.if-not-is_record.true))
 
 pub overflow_add-first : goal.overflow_add-first
 overflow_add-first c = omega (arith, (says c).long)

@@ -18,30 +18,26 @@ use Rattle.kept_check.specs.Private.{rows_borne_out}
 use Rattle.kept_check.proofs.Borne.{Borne, borne, there_by_rows, way_there}
 use borrow.Author.Rules.{rules}
 use Rattle.kept_check.proofs.to_kind_2.Goals as goal
+use Rattle.kept_check.proofs.to_kind_2.Goals.{After-number_at-follows, In-Is-2}
 
 -- the rows of a file that bears the list out
-are : (c : goal.In-Is-2) → rows_borne_out c.args.versions 1 6 c.args.file.now c.args.kept.now ≡ answer c.in-Is.rows
+are : (c : In-Is-2) → rows_borne_out c.args.versions 1 6 c.args.file.now c.args.kept.now ≡ answer c.in-Is.rows
 are c = sym c.rows_borne_out.ensures ∙ ap counted c.in-Is.is
 
-says : (c : goal.In-Is-2) → Borne c.args.versions 1 6 c.args.file.now c.args.kept.now c.in-Is.rows
+says : (c : In-Is-2) → Borne c.args.versions 1 6 c.args.file.now c.args.kept.now c.in-Is.rows
 says c =
     let a = c.args in
     borne a.versions 1 6 a.file.now a.kept.now _ (are c)
 
 -- the length field of the record
-follows : (c : goal.After-number_at-follows) → c.number_at-follows.result + 4 ≡ length c.args.kept.now
+follows : (c : After-number_at-follows) → c.number_at-follows.result + 4 ≡ length c.args.kept.now
 follows c =
     let s = c.args.kept.now in
     let a = accepted 1 6 s (says c.In-Is-2).is_record in
     omega (arith, a.long, a.size, c.number_at-follows.ensures ∙ all_there s 0 (omega (arith, a.long)))
 
--- GONE enum-known-why
--- | enum_known_why : tie.Need-enum-known-why
--- | enum_known_why c = search rules
 
--- GONE enum-known-rows
--- | enum_known_rows : tie.Need-enum-known-rows
--- | enum_known_rows c = search rules
+
 
 pub overflow_add-follows : goal.overflow_add-follows
 overflow_add-follows c = let b = says (goal.at.overflow_add-follows c).In-Is-2 in omega (arith, follows c, b.few, b.size)
@@ -66,9 +62,6 @@ returns-in-Refused c =
     ∙ after_refusal (rows_borne_out a.versions 1 6 f s) (λ n. and_then (read_kept s) (λ xs. in_room room (kept_form2 (record { rows = n; list = xs })))) _ _
     (sym c.rows_borne_out.ensures ∙ ap counted c.in-Refused.is))
 
--- GONE same-length
--- | same_length : tie.Need-same-length
--- | same_length c = search rules
 
 pub returns-in-Is : goal.returns-in-Is
 returns-in-Is c =

@@ -8,17 +8,10 @@ use Rattle.house_record.proofs.Reading.{loaded_is_kept}
 use borrow.Author.Rules.{rules}
 use Rattle.kept_rows.proofs.load.Goals as goal
 
--- GONE enum-known-entries
--- | enum_known_entries : tie.Need-enum-known-entries
--- | enum_known_entries c = search rules
 
--- GONE enum-known-why
--- | enum_known_why : tie.Need-enum-known-why
--- | enum_known_why c = search rules
 
--- GONE same-length
--- | same_length : tie.Need-same-length
--- | same_length c = search rules
+
+
 
 pub returns-in-Is : goal.returns-in-Is
 returns-in-Is c =
@@ -28,9 +21,6 @@ returns-in-Is c =
     loaded_with_rows s a.list.now _ (load_as 2 10 s room) _ _ _ c.load.ensures (ap counted c.in-Is.is)
     (λ w e. c.number_at-rows.ensures ∙ rows_are_there s (loaded_is_kept 2 10 s room w e))
 
--- GONE same-length-2
--- | same_length_2 : tie.Need-same-length-2
--- | same_length_2 c = search rules
 
 pub returns-in-Refused : goal.returns-in-Refused
 returns-in-Refused c =

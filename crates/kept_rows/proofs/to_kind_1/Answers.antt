@@ -14,16 +14,17 @@ use Rattle.house_record.proofs.Reading.{Accepted, accepted, all_there}
 use Rattle.kept_rows.proofs.Kind2.{no_way_back, way_back}
 use borrow.Author.Rules.{rules}
 use Rattle.kept_rows.proofs.to_kind_1.Goals as goal
+use Rattle.kept_rows.proofs.to_kind_1.Goals.{After-number_at-follows, Else-not-is_record}
 
 -- past the first refusal the bytes are a record of kind 2
-is_a_record : (c : goal.Else-not-is_record) → is_kept 2 10 c.args.kept.now ≡ true
-is_a_record c = sym c.is_record.ensures ∙ not-false _ c.if-not-is_record.false
+is_a_record : (c : Else-not-is_record) → is_kept 2 10 c.args.kept.now ≡ true
+is_a_record c = sym c.is_record.ensures ∙ c.if-not-is_record.false
 
-says : (c : goal.Else-not-is_record) → Accepted 2 10 c.args.kept.now
+says : (c : Else-not-is_record) → Accepted 2 10 c.args.kept.now
 says c = accepted 2 10 c.args.kept.now (is_a_record c)
 
 -- its length field
-follows : (c : goal.After-number_at-follows) → c.number_at-follows.result ≡ length c.args.kept.now - 4
+follows : (c : After-number_at-follows) → c.number_at-follows.result ≡ length c.args.kept.now - 4
 follows c =
     let a = says c.Else-not-is_record in
     c.number_at-follows.ensures ∙ all_there c.args.kept.now 0 (omega (arith, a.long)) ∙ a.size
@@ -32,7 +33,7 @@ pub returns-then-not-is_record : goal.returns-then-not-is_record
 returns-then-not-is_record c =
     let a = c.args in
     refused_writes_nothing a.out.now
-    (no_way_back a.kept.now (length a.out.now) (sym c.is_record.ensures ∙ not-true _ c.if-not-is_record.true))
+    (no_way_back a.kept.now (length a.out.now) (sym c.is_record.ensures ∙ c.if-not-is_record.true))
 
 pub overflow_sub-follows : goal.overflow_sub-follows
 overflow_sub-follows c = omega (arith, follows c, (says (goal.at.overflow_sub-follows c).Else-not-is_record).long)
@@ -43,9 +44,6 @@ slice_bounds-put-count c = omega (arith, (says (goal.at.slice_bounds-put-count c
 pub slice_bounds-put-start : goal.slice_bounds-put-start
 slice_bounds-put-start c = omega (arith, (says (goal.at.slice_bounds-put-start c).Else-not-is_record).long)
 
--- GONE same-length
--- | same_length : tie.Need-same-length
--- | same_length c = search rules
 
 pub returns : goal.returns
 returns c =

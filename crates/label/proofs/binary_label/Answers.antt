@@ -10,10 +10,10 @@ use borrow.Author.Rules.{rules}
 use Rattle.label.proofs.binary_label.Goals as goal
 
 pub returns-then-not-head_is_good : goal.returns-then-not-head_is_good
-returns-then-not-head_is_good c = sym (bad_head Two c.args.b.now (sym c.head_is_good.ensures ∙ not-true _ c.if-not-head_is_good.true))
+returns-then-not-head_is_good c = sym (bad_head Two c.args.b.now (sym c.head_is_good.ensures ∙ c.if-not-head_is_good.true))
 
 pub returns : goal.returns
 returns c =
     let b = c.args.b.now in
-    let head = sym c.head_is_good.ensures ∙ not-false _ c.if-not-head_is_good.false in
+    let head = sym c.head_is_good.ensures ∙ c.if-not-head_is_good.false in
     ap answer (c.label_with.ensures ∙ ap (λ (n : ℕ). labelled Two b n 0) c.binary_field-n.ensures) ∙ sym (good_head Two b head)

@@ -18,13 +18,8 @@ with_spaces b k e =
     ap (λ (xs : List ℕ). after k (number_in xs)) (sym (drop-drop k 12 b))
     ∙ ap (λ (j : ℕ). after j (number_in (drop j (drop 12 b)))) e
 
--- GONE enum-known-n
--- | enum_known_n : tie.Need-enum-known-n
--- | enum_known_n c = search rules
 
--- GONE enum-told
--- | enum_told : tie.Need-enum-told
--- | enum_told c = search rules
+
 
 pub returns-in-Is : goal.returns-in-Is
 returns-in-Is c =

@@ -10,26 +10,21 @@ use borrow.Author.Rules.{rules}
 use Rattle.label.proofs.digits_label.Goals as goal
 
 pub returns-then-not-head_is_good : goal.returns-then-not-head_is_good
-returns-then-not-head_is_good c = sym (bad_head One c.args.b.now (sym c.head_is_good.ensures ∙ not-true _ c.if-not-head_is_good.true))
+returns-then-not-head_is_good c = sym (bad_head One c.args.b.now (sym c.head_is_good.ensures ∙ c.if-not-head_is_good.true))
 
--- GONE enum-known-n
--- | enum_known_n : tie.Need-enum-known-n
--- | enum_known_n c = search rules
 
--- GONE enum-told
--- | enum_told : tie.Need-enum-told
--- | enum_told c = search rules
+
 
 pub returns-in-Is : goal.returns-in-Is
 returns-in-Is c =
     let b = c.args.b.now in
-    let head = sym c.head_is_good.ensures ∙ not-false _ c.if-not-head_is_good.false in
+    let head = sym c.head_is_good.ensures ∙ c.if-not-head_is_good.false in
     let field = sym c.digits_field.ensures ∙ ap field_read c.in-Is.is in
     ap answer c.label_with.ensures ∙ sym (good_head One b head ∙ ap (with_length One b) field)
 
 pub returns-in-Bad : goal.returns-in-Bad
 returns-in-Bad c =
     let b = c.args.b.now in
-    let head = sym c.head_is_good.ensures ∙ not-false _ c.if-not-head_is_good.false in
+    let head = sym c.head_is_good.ensures ∙ c.if-not-head_is_good.false in
     let field = sym c.digits_field.ensures ∙ ap field_read c.in-Bad.is in
     sym (good_head One b head ∙ ap (with_length One b) field)

@@ -26,9 +26,6 @@ returns-then-s-lt-LABEL c = sym (short_is_refused _ _ c.if-s-lt-LABEL.true)
 pub bounds-s-4 : goal.bounds-s-4
 bounds-s-4 c = omega (arith, c.if-s-lt-LABEL.false)
 
--- GONE enum-told
--- | enum_told : tie.Need-enum-told
--- | enum_told c = search rules
 
 pub slice_bounds-digits_label-end : goal.slice_bounds-digits_label-end
 slice_bounds-digits_label-end c = sym (length-take-le 20 c.args.s.now c.if-s-lt-LABEL.false)
@@ -36,9 +33,6 @@ slice_bounds-digits_label-end c = sym (length-take-le 20 c.args.s.now c.if-s-lt-
 pub digits_label-requires : goal.digits_label-requires
 digits_label-requires c = length-take-le 20 c.args.s.now c.if-s-lt-LABEL.false
 
--- GONE enum-told-2
--- | enum_told_2 : tie.Need-enum-told-2
--- | enum_told_2 c = search rules
 
 pub slice_bounds-binary_label-end : goal.slice_bounds-binary_label-end
 slice_bounds-binary_label-end c = sym (length-take-le 20 c.args.s.now c.if-s-lt-LABEL.false)

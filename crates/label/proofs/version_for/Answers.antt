@@ -9,13 +9,8 @@ use Rattle.label.proofs.version_for.Goals as goal
 pub returns-then-byte-ne50 : goal.returns-then-byte-ne50
 returns-then-byte-ne50 c = sym (says_not_two c.args.versions c.args.byte c.if-byte-ne50.true)
 
--- GONE enum-told
--- | enum_told : tie.Need-enum-told
--- | enum_told c = search rules
 
--- GONE enum-told-2
--- | enum_told_2 : tie.Need-enum-told-2
--- | enum_told_2 c = search rules
+
 
 pub returns-in-One : goal.returns-in-One
 returns-in-One c =

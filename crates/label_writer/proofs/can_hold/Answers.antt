@@ -5,13 +5,8 @@ use Rattle.label_writer.specs.Write.{holds}
 use borrow.Author.Rules.{rules}
 use Rattle.label_writer.proofs.can_hold.Goals as goal
 
--- GONE enum-told
--- | enum_told : tie.Need-enum-told
--- | enum_told c = search rules
 
--- GONE enum-told-2
--- | enum_told_2 : tie.Need-enum-told-2
--- | enum_told_2 c = search rules
+
 
 pub returns-in-One : goal.returns-in-One
 returns-in-One c = ap (λ (v : Version). holds v c.args.n) (sym c.in-One.is)

@@ -25,60 +25,42 @@ pub returns-then-not-is_head : goal.returns-then-not-is_head
 returns-then-not-is_head c =
     let a = c.args in
     refused_writes_nothing a.out.now
-    (no_head a.version a.head.now a.length (length a.out.now) (sym c.is_head.ensures ∙ not-true _ c.if-not-is_head.true))
+    (no_head a.version a.head.now a.length (length a.out.now) (sym c.is_head.ensures ∙ c.if-not-is_head.true))
 
 pub returns-then-not-can_hold : goal.returns-then-not-can_hold
 returns-then-not-can_hold c =
     let a = c.args in
-    let good = sym c.is_head.ensures ∙ not-false _ c.if-not-is_head.false in
+    let good = sym c.is_head.ensures ∙ c.if-not-is_head.false in
     refused_writes_nothing a.out.now
-    (too_long a.version a.head.now a.length (length a.out.now) good (sym c.can_hold.ensures ∙ not-true _ c.if-not-can_hold.true))
+    (too_long a.version a.head.now a.length (length a.out.now) good (sym c.can_hold.ensures ∙ c.if-not-can_hold.true))
 
 pub returns-then-out-lt-LABEL : goal.returns-then-out-lt-LABEL
 returns-then-out-lt-LABEL c =
     let a = c.args in
-    let good = sym c.is_head.ensures ∙ not-false _ c.if-not-is_head.false in
-    let held = sym c.can_hold.ensures ∙ not-false _ c.if-not-can_hold.false in
+    let good = sym c.is_head.ensures ∙ c.if-not-is_head.false in
+    let held = sym c.can_hold.ensures ∙ c.if-not-can_hold.false in
     refused_writes_nothing a.out.now (too_small a.version a.head.now a.length (length a.out.now) good held c.if-out-lt-LABEL.true)
 
--- GONE copy-requires
--- | copy_requires : tie.Need-copy-requires
--- | copy_requires c κs =
--- |     let a = c.before.before.before.before.before.before.before.before.before.args in
--- |     let good = sym c.before.before.before.before.before.before.is-head.ensures ∙ not-false _ c.before.before.before.before.before.if1.false in
--- |     omega (arith, twelve a.version a.head.now good)
 
--- GONE slice-aggregate-copy
--- | slice_aggregate_copy : tie.Need-slice-aggregate-copy
--- | slice_aggregate_copy c = search rules
 
--- GONE overflow-sub-copy
--- | sub_copy : tie.Need-overflow-sub-copy
--- | sub_copy c = search rules
 
--- GONE slice-bounds-copy-start
--- | part_copy_start : tie.Need-slice-bounds-copy-start
--- | part_copy_start c = search rules
 
--- GONE slice-bounds-copy-end
--- | part_copy_end : tie.Need-slice-bounds-copy-end
--- | part_copy_end c = search rules
 
--- GONE copy-requires-2
--- | copy_requires_2 : tie.Need-copy-requires-2
--- | copy_requires_2 c κs = search rules
 
--- GONE same-length
--- | same_length : tie.Need-same-length
--- | same_length c = search rules
+
+
+
+
+
+
 
 pub returns : goal.returns
 returns c =
     let a = c.args in
     let head = a.head.now in
     let old = a.out.now in
-    let good = sym c.is_head.ensures ∙ not-false _ c.if-not-is_head.false in
-    let held = sym c.can_hold.ensures ∙ not-false _ c.if-not-can_hold.false in
+    let good = sym c.is_head.ensures ∙ c.if-not-is_head.false in
+    let held = sym c.can_hold.ensures ∙ c.if-not-can_hold.false in
     let front = c.copy.new.1.0 in
     let back = c.copy2.new.1.0 in
     let field = c.field_of-field.result in

@@ -6,13 +6,8 @@ use Rattle.labelled.proofs.Seen.{counts_so_many, meets_the_fault}
 use borrow.Author.Rules.{rules}
 use Rattle.labelled.proofs.check.Goals as goal
 
--- GONE enum-known-seen
--- | enum_known_seen : tie.Need-enum-known-seen
--- | enum_known_seen c = search rules
 
--- GONE enum-known-why
--- | enum_known_why : tie.Need-enum-known-why
--- | enum_known_why c = search rules
+
 
 pub returns-in-Is : goal.returns-in-Is
 unfolding check_labelled

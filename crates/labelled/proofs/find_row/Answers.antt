@@ -8,9 +8,6 @@ use Rattle.labelled.proofs.Seen.{finds_the_row, finds_no_row, meets_the_fault}
 use borrow.Author.Rules.{rules}
 use Rattle.labelled.proofs.find_row.Goals as goal
 
--- GONE enum-known-seen
--- | enum_known_seen : tie.Need-enum-known-seen
--- | enum_known_seen c = search rules
 
 pub marked_row-requires : goal.marked_row-requires
 marked_row-requires c = subst MarksInside (ap searched c.in-Is.is) c.search_file.ensures.1
@@ -23,9 +20,6 @@ returns-then-k-seen c =
     ∙ finds_the_row _ (rows_of_file a.versions a.file.now) _
     (ap searched (sym c.in-Is.is) ∙ c.search_file.ensures.0) c.if-k-seen.true
 
--- GONE enum-known-why
--- | enum_known_why : tie.Need-enum-known-why
--- | enum_known_why c = search rules
 
 pub returns-else-k-seen : goal.returns-else-k-seen
 unfolding find_row

@@ -9,16 +9,10 @@ use Rattle.limits.proofs.Named.{of_the_named}
 use Rattle.limits.proofs.Lines.{altimeter_has_95_lines, bursts_have_43_lines, none_at}
 use Rattle.limits.proofs.line_at.Goals as goal
 
--- GONE enum-told
--- | enum_told : tie.Need-enum-told
--- | enum_told c = search rules
 
 pub returns-then-i-lt-ALTIMETER_LINES : goal.returns-then-i-lt-ALTIMETER_LINES
 returns-then-i-lt-ALTIMETER_LINES c = of_the_named (λ t. take 1 (drop c.args.i (table_of t))) c.in-Altimeter.is c.altimeter_line.ensures
 
--- GONE enum-told-2
--- | enum_told_2 : tie.Need-enum-told-2
--- | enum_told_2 c = search rules
 
 pub returns-then-i-lt-BURST_LINES : goal.returns-then-i-lt-BURST_LINES
 returns-then-i-lt-BURST_LINES c = of_the_named (λ t. take 1 (drop c.args.i (table_of t))) c.in-Bursts.is c.burst_line.ensures

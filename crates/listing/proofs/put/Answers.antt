@@ -9,41 +9,18 @@ use Rattle.listing.proofs.Putting.{put_between}
 use borrow.Author.Rules.{rules}
 use Rattle.listing.proofs.put.Goals as goal
 
--- GONE slice-aggregate-copy
--- | slice_aggregate_copy : tie.Need-slice-aggregate-copy
--- | slice_aggregate_copy c =
--- |     let l = c.before.before.before.args.line in
--- |     sym (length-take-le l.size l.bytes (omega (arith, c.before.before.before.requires.0.room, c.before.before.before.requires.0.fits)))
 
--- GONE overflow-sub-copy
--- | sub_copy : tie.Need-overflow-sub-copy
--- | sub_copy c = search rules
 
--- GONE slice-bounds-copy-start
--- | part_copy_start : tie.Need-slice-bounds-copy-start
--- | part_copy_start c = search rules
 
--- GONE slice-bounds-copy-end
--- | part_copy_end : tie.Need-slice-bounds-copy-end
--- | part_copy_end c = search rules
 
--- GONE copy-requires
--- | copy_requires : tie.Need-copy-requires
--- | copy_requires c κs =
--- |     let a = c.before.before.before.before.args in
--- |     omega (
--- |       arith,
--- |       length-take-le a.line.size a.line.bytes (omega (arith, c.before.before.before.before.requires.0.room, c.before.before.before.before.requires.0.fits)),
--- |       length-take-le (length a.out.now - a.at) (drop a.at a.out.now) (omega (arith, length-drop a.at a.out.now)),
--- |     )
 
--- GONE overflow-add-result
--- | add_result : tie.Need-overflow-add-result
--- | add_result c = search rules
 
--- GONE same-length
--- | same_length : tie.Need-same-length
--- | same_length c = search rules
+
+
+
+
+
+
 
 pub returns : goal.returns
 returns c =

@@ -7,17 +7,15 @@ use borrow.Author.Rules.{rules}
 use Rattle.walk.specs.Walk.{walked_to}
 use Rattle.listing.proofs.Underway.{Underway, Comes, sets_out, arrives, never_refused, ends_in_the_file, line_is_whole, line_has_room, text_was_put, turns}
 use Rattle.listing.proofs.put_rows.Goals as goal
+use Rattle.listing.proofs.put_rows.Goals.{In-Is-2}
 
 -- the leaf that the walk came to, where its label is bound
-comes : (c : goal.In-Is-2) → Comes c.loop-number.invariant c.in-Is.leaf
+comes : (c : In-Is-2) → Comes c.loop-number.invariant c.in-Is.leaf
 comes c = record { more = c.loop-number-test.true; walked = sym c.walk_from.ensures ∙ ap walked_to c.in-Is.is }
 
 pub loop-number-init : goal.loop-number-init
 loop-number-init c = sets_out _ _ _ _ c.requires.file_value
 
--- GONE enum-known-leaf
--- | enum_known_leaf : tie.Need-enum-known-leaf invariant_loop decreases_loop
--- | enum_known_leaf c = search rules
 
 pub row_line-requires : goal.row_line-requires
 row_line-requires c = omega (arith, ends_in_the_file (comes (goal.at.row_line-requires c).In-Is-2))
@@ -26,8 +24,7 @@ pub put-end-requires : goal.put-end-requires
 put-end-requires c =
     let m = comes (goal.at.put-end-requires c).In-Is-2 in
     let holds = c.row_Line.ensures in
-    let room = c.requires.at_bound in
-    (line_is_whole m holds, line_has_room m holds room.0 room.1)
+    let room = c.requires.at_bound in record { room = line_is_whole m holds; size_in_bounds = line_has_room m holds room.0 room.1 }
 
 pub overflow_add-from : goal.overflow_add-from
 overflow_add-from c = omega (arith, ends_in_the_file (comes (goal.at.overflow_add-from c).In-Is-2))
@@ -44,20 +41,12 @@ loop-number-preserved c =
     let put = c.put-end in
     turns m (omega (arith, c.requires.at_bound)) put.auto.1.0 (text_was_put m c.row_Line.ensures put.ensures)
 
--- GONE enum-told
--- | enum_told : tie.Need-enum-told invariant_loop decreases_loop
--- | enum_told c = search rules
 
--- GONE same-length
--- | same_length : tie.Need-same-length invariant_loop decreases_loop
--- | same_length c = c.before.before.before.before.loop.invariant.as_long
+
 
 pub returns-in-Refused : goal.returns-in-Refused
 returns-in-Refused c = absurd (never_refused c.loop-number.invariant c.loop-number-test.true _ _ (sym c.walk_from.ensures ∙ ap walked_to c.in-Refused.is))
 
--- GONE same-length-2
--- | same_length_2 : tie.Need-same-length-2 invariant_loop decreases_loop
--- | same_length_2 c = c.before.loop.invariant.as_long
 
 pub returns : goal.returns
 returns c = arrives c.loop-number.invariant c.loop-number-test.false

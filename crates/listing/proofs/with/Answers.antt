@@ -4,13 +4,8 @@ use Rattle.listing.proofs.Putting.{as_long_as_before, text_so_far}
 use borrow.Author.Rules.{rules}
 use Rattle.listing.proofs.with.Goals as goal
 
--- GONE overflow-sub-copy
--- | sub_copy : tie.Need-overflow-sub-copy
--- | sub_copy c = search rules
 
--- GONE copy-requires
--- | copy_requires : tie.Need-copy-requires
--- | copy_requires c κs = search rules
+
 
 pub returns : goal.returns
 returns c =

@@ -7,9 +7,6 @@ use Rattle.listing.proofs.Lines.{grown_more}
 use borrow.Author.Rules.{rules}
 use Rattle.listing.proofs.with_end.Goals as goal
 
--- GONE slice-aggregate-with-2
--- | slice_aggregate_with_2 : tie.Need-slice-aggregate-with-2
--- | slice_aggregate_with_2 c = search rules
 
 pub returns : goal.returns
 returns c =

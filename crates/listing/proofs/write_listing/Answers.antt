@@ -7,21 +7,14 @@ use borrow.Author.Rules.{rules}
 use Rattle.listing.proofs.write_listing.Goals as goal
 
 pub put-head-requires : goal.put-head-requires
-put-head-requires c = let whole = whole_line c.head_line.ensures in (whole, omega (arith, whole.fits))
+put-head-requires c = let whole = whole_line c.head_line.ensures in record { room = whole; size_in_bounds = omega (arith, whole.fits) }
 
--- GONE enum-known-checked
--- | enum_known_checked : tie.Need-enum-known-checked
--- | enum_known_checked c = search rules
 
 pub put_rows-requires : goal.put_rows-requires
 put_rows-requires c =
     let is = c.check_listed-checked.ensures in
-    let rows = ap counted c.in-Is.is in
-    (sym is ∙ rows, (head_is_short c.args.file.now is c.head_line.ensures c.put-head.ensures _ rows, search rules))
+    let rows = ap counted c.in-Is.is in record { file_value = sym is ∙ rows; at_bound = (head_is_short c.args.file.now is c.head_line.ensures c.put-head.ensures _ rows, search rules) }
 
--- GONE enum-told
--- | enum_told : tie.Need-enum-told
--- | enum_told c = search rules
 
 pub returns-in-Is : goal.returns-in-Is
 returns-in-Is c =

@@ -8,30 +8,21 @@ use Rattle.orbit.proofs.per_orbit_opening.Goals as goal
 pub returns-then-bytes-lt20 : goal.returns-then-bytes-lt20
 returns-then-bytes-lt20 c = too_short c.args.bytes.now c.if-bytes-lt20.true
 
--- GONE enum-known-first
--- | enum_known_first : tie.Need-enum-known-first
--- | enum_known_first c = search rules
 
--- GONE enum-known-first-2
--- | enum_known_first_2 : tie.Need-enum-known-first-2
--- | enum_known_first_2 c = search rules
 
--- GONE enum-known-second
--- | enum_known_second : tie.Need-enum-known-second
--- | enum_known_second c = search rules
 
--- GONE enum-known-second-2
--- | enum_known_second_2 : tie.Need-enum-known-second-2
--- | enum_known_second_2 c = search rules
+
+
+
 
 pub returns-in-Refused : goal.returns-in-Refused
 returns-in-Refused c =
-    (goal.at.returns-in-Refused c).After-start_time-first_refused c.args.bytes.now c.if-bytes-lt20.false _ _
+    start_refused c.args.bytes.now c.if-bytes-lt20.false _ _
     (sym c.start_time-first.ensures ∙ ap decoded c.in-Refused.is)
 
 pub returns-in-Refused-second : goal.returns-in-Refused-second
 returns-in-Refused-second c =
-    (goal.at.returns-in-Refused-second c).After-stop_time-second_refused c.args.bytes.now c.if-bytes-lt20.false _ _ _
+    stop_refused c.args.bytes.now c.if-bytes-lt20.false _ _ _
     (sym c.start_time-first.ensures ∙ ap decoded c.in-Is.is)
     (sym c.stop_time-second.ensures ∙ ap decoded c.in-Refused-second.is)
 

@@ -15,9 +15,10 @@ use Rattle.plotter.specs.Private.{Starts}
 use Rattle.plotter.proofs.Going.{NextRow, next_row, next_refused}
 use Rattle.plotter.proofs.Drawing.{Drawing, nothing_drawn, one_drawn, same_size, next_fits, none_missing, all_drawn, window_inside}
 use Rattle.plotter.proofs.draw.Goals as goal
+use Rattle.plotter.proofs.draw.Goals.{At-loop-y, In-Is-2, In-Refused}
 
 -- what is drawn so far, for the first row that is known to be there
-module _ (c : goal.At-loop-y Inv μ) where
+module _ (c : At-loop-y Inv μ) where
   so_far : Drawing c.args.kind c.args.file.now c.requires.0.0 c.args.rows c.args.a c.args.c c.args.out.now c.loop-y.out c.loop-y.next c.loop-y.y
   so_far = c.loop-y.invariant c.requires.0.0 c.requires.0.1
 
@@ -26,11 +27,11 @@ module _ (c : goal.At-loop-y Inv μ) where
       let a = c.args in
       same_size a.kind a.file.now c.requires.0.0 a.rows a.a a.c a.out.now c.loop-y.out c.loop-y.next c.loop-y.y so_far c.requires.2
 
-file_small : (c : goal.At-loop-y Inv μ) → length c.args.file.now < 18446744073709551616
+file_small : (c : At-loop-y Inv μ) → length c.args.file.now < 18446744073709551616
 file_small c = c.well-formed.1.0.0
 
 -- the row that going on came to, whatever the number of the first one, and that the window fits it
-came : (c : goal.In-Is-2 Inv μ) (first : ℕ) → Starts c.args.kind c.args.file.now first c.args.start
+came : (c : In-Is-2 Inv μ) (first : ℕ) → Starts c.args.kind c.args.file.now first c.args.start
     → NextRow c.args.kind c.args.file.now (first + c.loop-y.y) c.in-Is.row
 came c first s =
     let a = c.args in
@@ -38,7 +39,7 @@ came c first s =
     next_row a.kind a.file.now (first + l.y) l.next (l.invariant first s).going.next c.in-Is.row
     (sym c.row_from.ensures ∙ ap shown c.in-Is.is)
 
-fitted : (c : goal.In-Is-2 Inv μ) → fits c.in-Is.row.part.count c.args.a c.args.c ≡ true
+fitted : (c : In-Is-2 Inv μ) → fits c.in-Is.row.part.count c.args.a c.args.c ≡ true
 fitted c =
     let a = c.args in
     let p = c.requires in
@@ -47,17 +48,17 @@ fitted c =
     ap (λ (q : Part). fits q.count a.a a.c) (sym r.part)
     ∙ next_fits a.kind a.file.now p.0.0 a.rows a.a a.c a.out.now l.out l.next l.y (so_far c.At-loop-y) (p.1 p.0.0 p.0.1).0 (p.1 p.0.0 p.0.1).1 c.loop-y-test.true r.row r.is_row
 
-buffer_small : (c : goal.At-loop-y Inv μ) → length c.args.out.now < 18446744073709551616
+buffer_small : (c : At-loop-y Inv μ) → length c.args.out.now < 18446744073709551616
 buffer_small c = c.well-formed.1.1.1.1.1.1.0.0
 
 -- its window lies in the file, and its line in the buffer
-inside : (c : goal.In-Is-2 Inv μ) → c.in-Is.row.part.place + c.args.a + c.args.c ≤ length c.args.file.now
+inside : (c : In-Is-2 Inv μ) → c.in-Is.row.part.place + c.args.a + c.args.c ≤ length c.args.file.now
 inside c =
     let a = c.args in
     let p = c.requires in
     window_inside a.file.now c.in-Is.row a.a a.c (came c p.0.0 p.0.1).inside (fitted c)
 
-room : (c : goal.In-Is-2 Inv μ) → c.loop-y.y * line_bytes c.args.c + line_bytes c.args.c ≤ length c.args.out.now
+room : (c : In-Is-2 Inv μ) → c.loop-y.y * line_bytes c.args.c + line_bytes c.args.c ≤ length c.args.out.now
 room c =
     let a = c.args in
     let y = c.loop-y.y in
@@ -66,7 +67,7 @@ room c =
 )
 
 -- no row is missing
-never : (c : goal.In-Refused Inv μ) → ⊥
+never : (c : In-Refused Inv μ) → ⊥
 never c =
     let a = c.args in
     let p = c.requires in
@@ -79,10 +80,6 @@ loop-y-init c =
     let a = c.args in
     nothing_drawn a.kind a.file.now first a.rows a.a a.c a.out.now a.start s
 
-
--- GONE enum-known-row
--- | enum_known_row : tie.Need-enum-known-row Inv μ
--- | enum_known_row c = search rules
 
 pub overflow_add-place : goal.overflow_add-place
 overflow_add-place c = omega (arith, inside (goal.at.overflow_add-place c).In-Is-2, file_small (goal.at.overflow_add-place c).At-loop-y)
@@ -122,21 +119,11 @@ loop-y-preserved c =
     ∙ ap (λ (at : ℕ). take at l.out ++ line l.y (bytes_at a.file.now (next.part.place + a.a) a.c) ++ drop (at + line_bytes a.c) l.out) (ap (λ (w : ℕ). l.y * w) c.line_bytes-bytes.ensures))
 
 
--- GONE enum-told
--- | enum_told : tie.Need-enum-told Inv μ
--- | enum_told c = search rules
 
--- GONE same-length
--- | same_length : tie.Need-same-length Inv μ
--- | same_length c = long c.before.before.before.before
 
 pub returns-in-Refused : goal.returns-in-Refused
 returns-in-Refused c = absurd (never c)
 
-
--- GONE same-length-2
--- | same_length_2 : tie.Need-same-length-2 Inv μ
--- | same_length_2 c = long c.before
 
 pub returns : goal.returns
 returns c =
@@ -145,4 +132,3 @@ returns c =
     let l = c.loop-y in
     let (windows, all) = p.1 first s in
     all_drawn a.kind a.file.now first a.rows a.a a.c a.out.now l.out l.next l.y (l.invariant first s) windows all c.loop-y-test.false p.2
-

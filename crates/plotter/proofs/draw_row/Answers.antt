@@ -9,9 +9,6 @@ use Rattle.plotter.proofs.Drawing.{line_placed}
 use borrow.Author.Rules.{rules}
 use Rattle.plotter.proofs.draw_row.Goals as goal
 
--- GONE same-length
--- | same_length : tie.Need-same-length
--- | same_length c = search rules
 
 pub returns : goal.returns
 returns c =

@@ -21,9 +21,6 @@ same_test k l m n same =
 pub returns-then-bytes-eq0 : goal.returns-then-bytes-eq0
 returns-then-bytes-eq0 c = sym (le-leb (c.args.n * c.args.bytes) c.args.size (omega (arith, ap (λ (w : ℕ). c.args.n * w) c.if-bytes-eq0.true, mul-zero c.args.n)))
 
--- GONE nonzero-div-result
--- | div_result : tie.Need-nonzero-div-result
--- | div_result c = search rules
 
 pub returns : goal.returns
 returns c =

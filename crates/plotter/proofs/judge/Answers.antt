@@ -11,9 +11,10 @@ use Rattle.plotter.specs.Private.{Starts}
 use Rattle.plotter.proofs.Going.{NextRow, next_row, next_refused}
 use Rattle.plotter.proofs.Judging.{Judging, nothing_judged, one_judged, one_refused, all_judged}
 use Rattle.plotter.proofs.judge.Goals as goal
+use Rattle.plotter.proofs.judge.Goals.{In-Is-2}
 
 -- the row that going on came to, whatever the number of the first one
-came : (c : goal.In-Is-2 Inv μ) (first : ℕ) → Starts c.args.kind c.args.file.now first c.args.start
+came : (c : In-Is-2 Inv μ) (first : ℕ) → Starts c.args.kind c.args.file.now first c.args.start
     → NextRow c.args.kind c.args.file.now (first + c.loop-found.found) c.in-Is.row
 came c first s =
     let a = c.args in
@@ -26,9 +27,6 @@ loop-found-init c =
     let a = c.args in
     nothing_judged a.kind a.file.now first a.rows a.a a.c a.start s
 
--- GONE enum-known-row
--- | enum_known_row : tie.Need-enum-known-row Inv μ
--- | enum_known_row c = search rules
 
 pub overflow_add-from : goal.overflow_add-from
 overflow_add-from c =
@@ -48,9 +46,6 @@ loop-found-preserved c =
     one_judged a.kind a.file.now first a.rows a.a a.c l.fit l.from l.found (l.invariant first s) c.loop-found-test.true c.in-Is.row (came (goal.at.loop-found-preserved c).In-Is-2 first s)
     c.window_fits-fit.result c.window_fits-fit.ensures
 
--- GONE enum-known-why
--- | enum_known_why : tie.Need-enum-known-why Inv μ
--- | enum_known_why c = search rules
 
 pub returns-in-Refused : goal.returns-in-Refused
 returns-in-Refused c =

@@ -5,13 +5,8 @@ use Rattle.answer.specs.Counted.{counted}
 use borrow.Author.Rules.{rules}
 use Rattle.plotter.proofs.nothing.Goals as goal
 
--- GONE enum-told
--- | enum_told : tie.Need-enum-told
--- | enum_told c = search rules
 
--- GONE enum-known-why
--- | enum_known_why : tie.Need-enum-known-why
--- | enum_known_why c = search rules
+
 
 pub returns-in-Is : goal.returns-in-Is
 returns-in-Is c = sym (ap (mapped (λ rows. 0)) (sym c.check.ensures ∙ ap counted c.in-Is.is))

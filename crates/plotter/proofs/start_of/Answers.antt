@@ -12,13 +12,8 @@ use Rattle.plotter.specs.Private.{end_of, start_of}
 use borrow.Author.Rules.{rules}
 use Rattle.plotter.proofs.start_of.Goals as goal
 
--- GONE enum-told
--- | enum_told : tie.Need-enum-told
--- | enum_told c = search rules
 
--- GONE enum-known-why
--- | enum_known_why : tie.Need-enum-known-why
--- | enum_known_why c = search rules
+
 
 pub returns-in-Is : goal.returns-in-Is
 returns-in-Is c =
@@ -31,18 +26,12 @@ returns-in-Refused c =
     let a = c.args in
     sym (ap (start_of a.kind a.file.now) c.if-first-eq0.true ∙ ap (mapped (λ rows. beginning a.kind)) (sym c.check.ensures ∙ ap counted c.in-Refused.is))
 
--- GONE enum-known-row
--- | enum_known_row : tie.Need-enum-known-row
--- | enum_known_row c = search rules
 
 pub overflow_add-end : goal.overflow_add-end
 overflow_add-end c =
     let a = c.args in
     omega (arith, row_inside a.kind a.file.now (a.first - 1) c.in-Is-whole_row.row (sym c.whole_row.ensures ∙ ap shown c.in-Is-whole_row.is), c.well-formed.1.0.0)
 
--- GONE enum-known-why-2
--- | enum_known_why_2 : tie.Need-enum-known-why-2
--- | enum_known_why_2 c = search rules
 
 pub returns-in-Is-whole_row : goal.returns-in-Is-whole_row
 returns-in-Is-whole_row c =

@@ -13,9 +13,10 @@ use Rattle.plotter.specs.Private.{Starts}
 use Rattle.plotter.proofs.Starting.{starts, no_start, no_rows, accepted_strip, nothing_written, written_as}
 use borrow.Author.Rules.{rules}
 use Rattle.plotter.proofs.strip.Goals as goal
+use Rattle.plotter.proofs.strip.Goals.{In-Is-2}
 
 -- going on to the first row
-begun : (c : goal.In-Is-2) → Starts c.args.kind c.args.file.now c.args.first c.in-Is.start
+begun : (c : In-Is-2) → Starts c.args.kind c.args.file.now c.args.first c.in-Is.start
 begun c =
     let a = c.args in
     starts a.kind a.file.now a.first c.in-Is.start (sym c.start_of.ensures ∙ ap counted c.in-Is.is)
@@ -27,20 +28,12 @@ returns-then-rows-eq0 c =
     (nothing_written _ a.out.now (check_file a.kind a.file.now)
     (ap (λ (n : ℕ). strip_into (length a.out.now) a.kind a.file.now a.first n a.a a.c) c.if-rows-eq0.true ∙ no_rows a.kind a.file.now (length a.out.now) a.first a.a a.c))
 
--- GONE enum-known-start
--- | enum_known_start : tie.Need-enum-known-start
--- | enum_known_start c = search rules
 
 pub strip_from-requires : goal.strip_from-requires
 strip_from-requires c = (c.args.first, begun (goal.at.strip_from-requires c).In-Is-2)
 
--- GONE enum-known-why
--- | enum_known_why : tie.Need-enum-known-why
--- | enum_known_why c = search rules
 
--- GONE same-length
--- | same_length : tie.Need-same-length
--- | same_length c = search rules
+
 
 pub returns-in-Is : goal.returns-in-Is
 returns-in-Is c =

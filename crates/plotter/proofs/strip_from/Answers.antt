@@ -13,27 +13,25 @@ use Rattle.plotter.specs.Private.{AllThere}
 use Rattle.plotter.proofs.Drawing.{windows_refused, windows_there, too_small, drawn_amount}
 use borrow.Author.Rules.{rules}
 use Rattle.plotter.proofs.strip_from.Goals as goal
+use Rattle.plotter.proofs.strip_from.Goals.{After-has_room, In-Is, Then-has_room}
 
 -- all rows are there
-there : (c : goal.In-Is) → AllThere c.args.kind c.args.file.now c.args.start c.args.rows c.args.a c.args.c
+there : (c : In-Is) → AllThere c.args.kind c.args.file.now c.args.start c.args.rows c.args.a c.args.c
 there c first s =
     let a = c.args in
     windows_there (length a.out.now) a.kind a.file.now first a.rows a.a a.c _ (sym (c.judge.ensures first s) ∙ ap counted c.in-Is.is)
 
 -- the test of room is that of the definition
-has_room : (c : goal.After-has_room) → leb (c.args.rows * line_bytes c.args.c) (length c.args.out.now) ≡ c.has_room.result
+has_room : (c : After-has_room) → leb (c.args.rows * line_bytes c.args.c) (length c.args.out.now) ≡ c.has_room.result
 has_room c =
     let a = c.args in
     ap (λ (w : ℕ). leb (a.rows * w) (length a.out.now)) (sym c.line_bytes-bytes.ensures) ∙ sym c.has_room.ensures
 
-fits_there : (c : goal.Then-has_room) → c.args.rows * line_bytes c.args.c ≤ length c.args.out.now
+fits_there : (c : Then-has_room) → c.args.rows * line_bytes c.args.c ≤ length c.args.out.now
 fits_there c =
     let a = c.args in
     leb-true (a.rows * line_bytes a.c) (length a.out.now) (has_room c.After-has_room ∙ c.if-has_room.true)
 
--- GONE enum-told
--- | enum_told : tie.Need-enum-told
--- | enum_told c = search rules
 
 pub draw-requires : goal.draw-requires
 draw-requires c = (c.requires, there (goal.at.draw-requires c).In-Is, fits_there (goal.at.draw-requires c).Then-has_room)
@@ -41,9 +39,6 @@ draw-requires c = (c.requires, there (goal.at.draw-requires c).In-Is, fits_there
 pub overflow_mul-result : goal.overflow_mul-result
 overflow_mul-result c = omega (arith, fits_there (goal.at.overflow_mul-result c).Then-has_room, ap (λ (w : ℕ). c.args.rows * w) c.line_bytes-bytes.ensures, c.well-formed.1.1.1.1.1.1.0.0)
 
--- GONE same-length
--- | same_length : tie.Need-same-length
--- | same_length c = search rules
 
 pub returns-then-has_room : goal.returns-then-has_room
 returns-then-has_room c =
@@ -56,9 +51,6 @@ returns-then-has_room c =
       leaves = c.draw.ensures first s;
     }
 
--- GONE enum-known-why
--- | enum_known_why : tie.Need-enum-known-why
--- | enum_known_why c = search rules
 
 pub returns-else-has_room : goal.returns-else-has_room
 returns-else-has_room c =

@@ -10,17 +10,10 @@ use Rattle.reader.specs.Read.{find_row}
 use borrow.Author.Rules.{rules}
 use Rattle.reader.proofs.whole_row.Goals as goal
 
--- GONE enum-known-kind
--- | enum_known_kind : tie.Need-enum-known-kind
--- | enum_known_kind c = search rules
 
--- GONE enum-told
--- | enum_told : tie.Need-enum-told
--- | enum_told c = search rules
 
--- GONE enum-known-kind-2
--- | enum_known_kind_2 : tie.Need-enum-known-kind-2
--- | enum_known_kind_2 c = search rules
+
+
 
 pub returns-in-Labelled : goal.returns-in-Labelled
 unfolding find_row

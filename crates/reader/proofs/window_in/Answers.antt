@@ -6,9 +6,6 @@ use Rattle.answer.proofs.Windows.{fitting_is_inside}
 use borrow.Author.Rules.{rules}
 use Rattle.reader.proofs.window_in.Goals as goal
 
--- GONE enum-known-row
--- | enum_known_row : tie.Need-enum-known-row
--- | enum_known_row c = search rules
 
 pub overflow_add-place : goal.overflow_add-place
 overflow_add-place c =
@@ -19,9 +16,6 @@ pub returns-then-window_fits : goal.returns-then-window_fits
 returns-then-window_fits c =
     simp (ap shown c.in-Is.is, (sym c.window_fits.ensures ∙ c.if-window_fits.true))
 
--- GONE enum-known-row-2
--- | enum_known_row_2 : tie.Need-enum-known-row-2
--- | enum_known_row_2 c = search rules
 
 pub returns-else-window_fits : goal.returns-else-window_fits
 returns-else-window_fits c = simp (ap shown c.in-Is.is, (sym c.window_fits.ensures ∙ c.if-window_fits.false))

@@ -15,20 +15,16 @@ use Rattle.row_index.specs.Private.{the_index}
 use Rattle.row_index.proofs.Building.{refused_build, index_at_the_front, rows_counted, entries_counted, no_room_to_build, index_is_built, not_built}
 use borrow.Author.Rules.{rules}
 use Rattle.row_index.proofs.build_index.Goals as goal
+use Rattle.row_index.proofs.build_index.Goals.{After-groups-entries, In-Is-2}
 
-is : (c : goal.In-Is-2) → check_labelled c.args.versions c.args.file.now ≡ answer c.in-Is.rows
+is : (c : In-Is-2) → check_labelled c.args.versions c.args.file.now ≡ answer c.in-Is.rows
 is c = sym c.check.ensures ∙ ap counted c.in-Is.is
 
-all : (c : goal.After-groups-entries) → length (the_index c.args.versions c.args.file.now) ≡ c.groups-entries.result
+all : (c : After-groups-entries) → length (the_index c.args.versions c.args.file.now) ≡ c.groups-entries.result
 all c = entries_counted c.args.versions c.args.file.now _ (is c.In-Is-2) ∙ sym c.groups-entries.ensures
 
--- GONE enum-known-why
--- | enum_known_why : tie.Need-enum-known-why
--- | enum_known_why c = search rules
 
--- GONE enum-known-rows
--- | enum_known_rows : tie.Need-enum-known-rows
--- | enum_known_rows c = search rules
+
 
 pub returns-then-list-entries : goal.returns-then-list-entries
 returns-then-list-entries c =
@@ -45,9 +41,6 @@ returns-in-Refused c =
     refused_build c.args.list.now
     (not_built c.args.versions c.args.file.now _ _ (sym c.check.ensures ∙ ap counted c.in-Refused.is) _)
 
--- GONE same-length
--- | same_length : tie.Need-same-length
--- | same_length c = search rules
 
 pub returns-else-list-entries : goal.returns-else-list-entries
 returns-else-list-entries c =

@@ -5,13 +5,8 @@ use Rattle.row_index.proofs.Building.{counted_is_checked, refused_is_checked}
 use borrow.Author.Rules.{rules}
 use Rattle.row_index.proofs.check_index.Goals as goal
 
--- GONE enum-known-why
--- | enum_known_why : tie.Need-enum-known-why
--- | enum_known_why c = search rules
 
--- GONE enum-told
--- | enum_told : tie.Need-enum-told
--- | enum_told c = search rules
+
 
 pub returns-in-Refused : goal.returns-in-Refused
 returns-in-Refused c =

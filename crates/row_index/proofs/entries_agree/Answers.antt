@@ -8,8 +8,9 @@ use borrow.Author.Rules.{rules}
 use Rattle.row_index.proofs.Entries.{Entry, entry_found}
 use Rattle.row_index.proofs.Building.{Comparing, nothing_compared, entry_agrees, entry_differs, all_compared}
 use Rattle.row_index.proofs.entries_agree.Goals as goal
+use Rattle.row_index.proofs.entries_agree.Goals.{After-entry_from-place}
 
-entry : (c : goal.After-entry_from-place Inv μ) → Entry c.args.versions c.args.file.now c.loop-done.done c.entry_from-place.result
+entry : (c : After-entry_from-place Inv μ) → Entry c.args.versions c.args.file.now c.loop-done.done c.entry_from-place.result
 entry c =
     let v = c.args.versions in
     let f = c.args.file.now in
@@ -20,9 +21,6 @@ entry c =
 pub loop-done-init : goal.loop-done-init
 loop-done-init c = nothing_compared c.args.versions c.args.file.now c.args.list.now
 
--- GONE overflow-cast-if1
--- | cast_if1 : tie.Need-overflow-cast-if1 Inv μ
--- | cast_if1 c = omega (arith, c.shared-slice-known3.given c.before.before.before.loop.done)
 
 pub returns-then-list-done : goal.returns-then-list-done
 returns-then-list-done c =

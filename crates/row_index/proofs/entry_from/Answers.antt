@@ -17,13 +17,8 @@ found : (v : Versions) (f : List ℕ) (from k : ℕ) (o : Outcome Leaf) → walk
     → (place_found o ≡ place_found (walk_from v f from k)) × (place_found o ≤ length f)
 found v f from k o e = (ap place_found (sym e), subst (λ (r : Outcome Leaf). place_found r ≤ length f) e (place_found_inside v f from k))
 
--- GONE enum-known-leaf
--- | enum_known_leaf : tie.Need-enum-known-leaf
--- | enum_known_leaf c = search rules
 
--- GONE enum-told
--- | enum_told : tie.Need-enum-told
--- | enum_told c = search rules
+
 
 pub returns-in-Is : goal.returns-in-Is
 returns-in-Is c =

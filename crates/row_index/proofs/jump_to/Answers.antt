@@ -12,9 +12,6 @@ returns-then-file-gt-LARGEST_FILE c = sym (too_big_to_jump c.args.versions c.arg
 pub returns-then-list-group : goal.returns-then-list-group
 returns-then-list-group c = sym (no_entry c.args.versions c.args.file.now c.args.list.now _ c.if-file-gt-LARGEST_FILE.false c.if-list-group.true)
 
--- GONE overflow-cast-entry
--- | cast_entry : tie.Need-overflow-cast-entry
--- | cast_entry c = omega (arith, c.shared-slice-known3.given (c.before.before.before.before.before.args.k / 16))
 
 pub returns-then-file-entry : goal.returns-then-file-entry
 returns-then-file-entry c =

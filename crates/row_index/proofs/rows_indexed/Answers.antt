@@ -10,17 +10,13 @@ use Rattle.row_index.specs.Private.{the_index}
 use Rattle.row_index.proofs.Building.{entries_counted, rows_are_indexed, lengths_differ, not_checked}
 use borrow.Author.Rules.{rules}
 use Rattle.row_index.proofs.rows_indexed.Goals as goal
+use Rattle.row_index.proofs.rows_indexed.Goals.{In-Is-2}
 
-is : (c : goal.In-Is-2) → check_labelled c.args.versions c.args.file.now ≡ answer c.in-Is.rows
+is : (c : In-Is-2) → check_labelled c.args.versions c.args.file.now ≡ answer c.in-Is.rows
 is c = sym c.check.ensures ∙ ap counted c.in-Is.is
 
--- GONE enum-known-why
--- | enum_known_why : tie.Need-enum-known-why
--- | enum_known_why c = search rules
 
--- GONE enum-known-rows
--- | enum_known_rows : tie.Need-enum-known-rows
--- | enum_known_rows c = search rules
+
 
 pub returns-then-list-groups : goal.returns-then-list-groups
 returns-then-list-groups c =

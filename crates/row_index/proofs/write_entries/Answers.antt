@@ -9,12 +9,13 @@ use Rattle.row_index.specs.Private.{the_index}
 use Rattle.row_index.proofs.Entries.{Entry, entry_found}
 use Rattle.row_index.proofs.Building.{Writing, nothing_written, entry_written}
 use Rattle.row_index.proofs.write_entries.Goals as goal
+use Rattle.row_index.proofs.write_entries.Goals.{At-loop-i}
 
 -- the list keeps its length
-long : (c : goal.At-loop-i Inv μ) → length c.loop-i.list ≡ length c.args.list.now
+long : (c : At-loop-i Inv μ) → length c.loop-i.list ≡ length c.args.list.now
 long c =
     let a = c.args in
-    c.Startame_long (the_index a.versions a.file.now) a.list.now a.entries c.loop-i.list c.loop-i.i c.loop-i.invariant.put c.requires.1 c.requires.2
+    same_long (the_index a.versions a.file.now) a.list.now a.entries c.loop-i.list c.loop-i.i c.loop-i.invariant.put c.requires.1 c.requires.2
 
 pub loop-i-init : goal.loop-i-init
 loop-i-init c = nothing_written c.args.versions c.args.file.now c.args.entries c.args.list.now
@@ -46,9 +47,6 @@ loop-i-preserved c =
     entry_written v f c.args.entries c.args.list.now w.list w.i w.from w.leaves _ w.invariant pre.1 pre.2 more
     (subst (Entry v f w.i) (sym c.entry_from-place.ensures.0) (entry_found v f w.i w.from w.leaves w.invariant.at (omega (arith, pre.1, more))))
 
--- GONE same-length
--- | same_length : tie.Need-same-length Inv μ
--- | same_length c = long c.before
 
 pub returns : goal.returns
 returns c =

@@ -40,13 +40,8 @@ module _ (versions : Versions) (part : List ℕ) (at : ℕ) where
       inside = omega (arith, long);
     }
 
--- GONE enum-known-why
--- | enum_known_why : tie.Need-enum-known-why
--- | enum_known_why c = search rules
 
--- GONE enum-known-l
--- | enum_known_l : tie.Need-enum-known-l
--- | enum_known_l c = search rules
+
 
 pub overflow_sub-room : goal.overflow_sub-room
 overflow_sub-room c =

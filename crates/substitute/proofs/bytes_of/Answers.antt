@@ -16,13 +16,8 @@ of_the_named : (original substitute : List ℕ) (found : Chosen) {s : Source} �
 of_the_named original substitute found e =
     ap (λ (s : Source). bytes_at (file_named s original substitute) found.row.part.place found.row.part.count) (sym e)
 
--- GONE enum-told
--- | enum_told : tie.Need-enum-told
--- | enum_told c = search rules
 
--- GONE enum-told-2
--- | enum_told_2 : tie.Need-enum-told-2
--- | enum_told_2 c = search rules
+
 
 pub returns-in-Original : goal.returns-in-Original
 returns-in-Original c =

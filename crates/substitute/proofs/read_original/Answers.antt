@@ -8,13 +8,8 @@ use Rattle.substitute.proofs.Rows.{found_is_row}
 use borrow.Author.Rules.{rules}
 use Rattle.substitute.proofs.read_original.Goals as goal
 
--- GONE enum-known-row
--- | enum_known_row : tie.Need-enum-known-row
--- | enum_known_row c = search rules
 
--- GONE enum-known-why
--- | enum_known_why : tie.Need-enum-known-why
--- | enum_known_why c = search rules
+
 
 pub returns-in-Is : goal.returns-in-Is
 returns-in-Is c = sym (ap (mapped (from Original)) (found_is_row (Labelled _) _ _ c.find_labelled.ensures c.in-Is.is))

@@ -6,13 +6,8 @@ use Rattle.substitute.proofs.Serving.{substitute_has_it, substitute_refused}
 use borrow.Author.Rules.{rules}
 use Rattle.substitute.proofs.read_row.Goals as goal
 
--- GONE enum-known-row
--- | enum_known_row : tie.Need-enum-known-row
--- | enum_known_row c = search rules
 
--- GONE enum-told
--- | enum_told : tie.Need-enum-told
--- | enum_told c = search rules
+
 
 pub returns-in-Is : goal.returns-in-Is
 returns-in-Is c = sym (substitute_has_it _ _ _ _ _ (found_is_row (Labelled _) _ _ c.find_labelled.ensures c.in-Is.is))

@@ -17,28 +17,26 @@ use Rattle.plotter.proofs.Drawing.{window_inside}
 use Rattle.trace.proofs.OneDot.{dot_of_row, dot_refused}
 use borrow.Author.Rules.{rules}
 use Rattle.trace.proofs.behind.Goals as goal
+use Rattle.trace.proofs.behind.Goals.{In-Is-2, Then-window_fits-x}
 
 abbrev dot : (place byte tone : ℕ) → Bool → Dot
 dot place byte tone set = record { place = place; byte = byte; tone = tone; set = set }
 
-found : (c : goal.In-Is-2) → find_row c.args.kind c.args.file.now (c.args.first + c.args.y) ≡ answer c.in-Is.row
+found : (c : In-Is-2) → find_row c.args.kind c.args.file.now (c.args.first + c.args.y) ≡ answer c.in-Is.row
 found c = sym c.row_of_line.ensures ∙ ap shown c.in-Is.is
 
 -- the window fits, and the column is in it
-both : (c : goal.Then-window_fits-x) → (fits c.in-Is.row.part.count c.args.a c.args.c && ltb c.args.x c.args.c) ≡ true
+both : (c : Then-window_fits-x) → (fits c.in-Is.row.part.count c.args.a c.args.c && ltb c.args.x c.args.c) ≡ true
 both c = ap (λ (t : Bool). t && ltb c.args.x c.args.c) (sym c.window_fits.ensures) ∙ c.if-window_fits-x.true
 
 -- so the byte lies in the file
-inside : (c : goal.Then-window_fits-x) → c.in-Is.row.part.place + c.args.a + c.args.x < length c.args.file.now
+inside : (c : Then-window_fits-x) → c.in-Is.row.part.place + c.args.a + c.args.x < length c.args.file.now
 inside c =
     let a = c.args in
     let row = c.in-Is.row in
     let (fit, column) = both_hold (fits row.part.count a.a a.c) (ltb a.x a.c) (both c) in
     omega (arith, window_inside a.file.now row a.a a.c (row_inside a.kind a.file.now (a.first + a.y) row (found c.In-Is-2)) fit, ltb-true a.x a.c column)
 
--- GONE enum-known-row
--- | enum_known_row : tie.Need-enum-known-row
--- | enum_known_row c = search rules
 
 pub overflow_add-place : goal.overflow_add-place
 overflow_add-place c = omega (arith, inside (goal.at.overflow_add-place c).Then-window_fits-x, c.well-formed.1.0.0)
@@ -59,9 +57,6 @@ returns-then-window_fits-x c =
     ∙ ap (λ (t : ℕ). answer (dot place byte t (is_dot t a.x a.y))) c.tone-tone.ensures
     ∙ sym (dot_of_row a.kind a.file.now a.first a.a a.c a.x a.y row (found (goal.at.returns-then-window_fits-x c).In-Is-2) true (both (goal.at.returns-then-window_fits-x c).Then-window_fits-x))
 
--- GONE enum-known-why
--- | enum_known_why : tie.Need-enum-known-why
--- | enum_known_why c = search rules
 
 pub returns-else-window_fits-x : goal.returns-else-window_fits-x
 returns-else-window_fits-x c =

@@ -7,13 +7,8 @@ use Rattle.trace.proofs.OneDot.{past_the_last, of_a_refused_file}
 use borrow.Author.Rules.{rules}
 use Rattle.trace.proofs.row_of_line.Goals as goal
 
--- GONE enum-known-rows
--- | enum_known_rows : tie.Need-enum-known-rows
--- | enum_known_rows c = search rules
 
--- GONE enum-known-why
--- | enum_known_why : tie.Need-enum-known-why
--- | enum_known_why c = search rules
+
 
 pub returns-in-Is : goal.returns-in-Is
 returns-in-Is c =

@@ -13,8 +13,7 @@ use Rattle.vax.proofs.vax_d.Goals as goal
 
 pub returns-then-bytes-lt8 : goal.returns-then-bytes-lt8
 returns-then-bytes-lt8 c =
-    let s = c.args.bytes.now in
-    (sym (too_short (nearest_D s) s 8 c.if-bytes-lt8.true), λ x e. never 1 0 x e)
+    let s = c.args.bytes.now in record { result_value = sym (too_short (nearest_D s) s 8 c.if-bytes-lt8.true); nearest = λ x e. never 1 0 x e }
 
 pub returns : goal.returns
 returns c =

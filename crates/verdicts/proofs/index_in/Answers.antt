@@ -12,9 +12,6 @@ use Rattle.verdicts.proofs.index_in.Goals as goal
 pub loop-i-init : goal.loop-i-init
 loop-i-init c = (omega arith, omega arith)
 
--- GONE overflow-cast-here
--- | cast_here : tie.Need-overflow-cast-here invariant_loop decreases_loop
--- | cast_here c = omega (arith, c.shared-slice-known.given c.before.before.loop.i)
 
 pub returns-then-here-number : goal.returns-then-here-number
 returns-then-here-number c =

@@ -8,21 +8,12 @@ use Rattle.limits.proofs.Named.{of_the_named}
 use Rattle.verdicts.specs.Private.{numbers_of, index_in}
 use Rattle.verdicts.proofs.index_of.Goals as goal
 
--- GONE enum-told
--- | enum_told : tie.Need-enum-told
--- | enum_told c = search rules
 
--- GONE slice-aggregate-index-in
--- | slice_aggregate_index_in : tie.Need-slice-aggregate-index-in
--- | slice_aggregate_index_in c = search rules
 
--- GONE enum-told-2
--- | enum_told_2 : tie.Need-enum-told-2
--- | enum_told_2 c = search rules
 
--- GONE slice-aggregate-index-in-2
--- | slice_aggregate_index_in_2 : tie.Need-slice-aggregate-index-in-2
--- | slice_aggregate_index_in_2 c = search rules
+
+
+
 
 pub returns-in-Altimeter : goal.returns-in-Altimeter
 unfolding altimeter_table

@@ -3,11 +3,12 @@ use mir.Syntax.{w64}
 use mir.Val.{SFits}
 use Rattle.verdicts.proofs.Bits.{test_of_numbers}
 use Rattle.verdicts.proofs.judge.Goals as goal
+use Rattle.verdicts.proofs.judge.Goals.{After-struct_told-2-1}
 
-minimum_fits : (c : goal.After-struct_told-2-1) → SFits w64 c.args.limit.1
+minimum_fits : (c : After-struct_told-2-1) → SFits w64 c.args.limit.1
 minimum_fits c = record { sfits = c.struct_told-2-1.given.1.0.1 }
 
-maximum_fits : (c : goal.After-struct_told-2-1) → SFits w64 c.args.limit.2
+maximum_fits : (c : After-struct_told-2-1) → SFits w64 c.args.limit.2
 maximum_fits c = record { sfits = c.struct_told-2-1.given.1.1.0.1 }
 
 pub returns-then-value-minimum : goal.returns-then-value-minimum

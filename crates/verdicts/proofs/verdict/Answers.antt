@@ -6,13 +6,8 @@ use borrow.Author.Rules.{rules}
 use Rattle.verdicts.specs.Private.{found}
 use Rattle.verdicts.proofs.verdict.Goals as goal
 
--- GONE enum-known-line
--- | enum_known_line : tie.Need-enum-known-line
--- | enum_known_line c = search rules
 
--- GONE enum-told
--- | enum_told : tie.Need-enum-told
--- | enum_told c = search rules
+
 
 pub returns-in_default : goal.returns-in_default
 returns-in_default c = simp (sym c.find-line.ensures ∙ ap found c.in_default.is)

@@ -8,16 +8,10 @@ use Rattle.walk.proofs.Finding.{walked_value_fits}
 use borrow.Author.Rules.{rules}
 use Rattle.walk.proofs.row_from.Goals as goal
 
--- GONE enum-known-leaf
--- | enum_known_leaf : tie.Need-enum-known-leaf
--- | enum_known_leaf c = search rules
 
 pub overflow_add-value : goal.overflow_add-value
 overflow_add-value c = omega (arith, walked_value_fits c.args.versions c.args.file.now c.args.from c.args.leaves c.in-Is.leaf (sym c.walk_from.ensures ∙ ap walked_to c.in-Is.is))
 
--- GONE enum-known-why
--- | enum_known_why : tie.Need-enum-known-why
--- | enum_known_why c = search rules
 
 pub returns-in-Is : goal.returns-in-Is
 returns-in-Is c = ap (λ (o : Outcome Leaf). and_then o row_at_leaf) (sym (sym c.walk_from.ensures ∙ ap walked_to c.in-Is.is))

@@ -6,13 +6,8 @@ use Rattle.walk.proofs.Walking.{step_not_read, step_opened, step_too_long, step_
 use borrow.Author.Rules.{rules}
 use Rattle.walk.proofs.step_at.Goals as goal
 
--- GONE enum-known-why
--- | enum_known_why : tie.Need-enum-known-why
--- | enum_known_why c = search rules
 
--- GONE enum-known-l
--- | enum_known_l : tie.Need-enum-known-l
--- | enum_known_l c = search rules
+
 
 pub returns-then-is_opened : goal.returns-then-is_opened
 returns-then-is_opened c =

@@ -11,8 +11,9 @@ use Rattle.walk.specs.Walk.{step_at}
 use Rattle.walk.specs.Private.{stepped}
 use Rattle.walk.proofs.WalkLoop.{too_big_to_walk, place_beyond, step_seen, OnTheWay, sets_out, comes_to_the_end, meets_a_fault, steps_in, leaf_inside, arrives, steps_over}
 use Rattle.walk.proofs.walk_from.Goals as goal
+use Rattle.walk.proofs.walk_from.Goals.{In-Closed-2, In-Open}
 
-opened : (c : goal.In-Open Inv μ)
+opened : (c : In-Open Inv μ)
     → OnTheWay c.args.versions c.args.file.now c.args.from c.args.leaves (c.loop-at.at + 20) c.loop-at.k
 opened c =
     let a = c.args in
@@ -21,12 +22,12 @@ opened c =
     steps_in a.versions f _ _ w.at w.k w.invariant c.loop-at-test.true
     (step_seen a.versions f w.at (ap stepped (sym c.in-Open.is) ∙ c.step_at.ensures))
 
-leaf : (c : goal.In-Closed-2 Inv μ) → step_at c.args.versions (drop c.loop-at.at c.args.file.now) ≡ answer (some c.in-Closed.found)
+leaf : (c : In-Closed-2 Inv μ) → step_at c.args.versions (drop c.loop-at.at c.args.file.now) ≡ answer (some c.in-Closed.found)
 leaf c =
     step_seen c.args.versions c.args.file.now c.loop-at.at
     (ap stepped (sym c.in-Closed.is) ∙ c.step_at.ensures)
 
-inside : (c : goal.In-Closed-2 Inv μ) → c.loop-at.at + 20 + c.in-Closed.found.length ≤ length c.args.file.now
+inside : (c : In-Closed-2 Inv μ) → c.loop-at.at + 20 + c.in-Closed.found.length ≤ length c.args.file.now
 inside c =
     let w = c.loop-at in
     leaf_inside c.args.versions c.args.file.now _ _ w.at w.k w.invariant c.loop-at-test.true _ (leaf c)
@@ -40,11 +41,6 @@ returns-then-file-from c = sym (place_beyond c.args.versions c.args.file.now _ _
 pub loop-at-init : goal.loop-at-init
 loop-at-init c = sets_out c.args.versions c.args.file.now _ _ c.if-file-gt-LARGEST_FILE.false c.if-file-from.false
 
--- GONE enum-known-why
--- | -- ---- a fault
--- |
--- | enum_known_why : tie.Need-enum-known-why Inv μ
--- | enum_known_why c = search rules
 
 pub returns-in-Fault : goal.returns-in-Fault
 returns-in-Fault c =
@@ -54,11 +50,6 @@ returns-in-Fault c =
     sym (meets_a_fault a.versions f _ _ w.at w.k w.invariant c.loop-at-test.true _ _
     (step_seen a.versions f w.at (ap stepped (sym c.in-Fault.is) ∙ c.step_at.ensures)))
 
--- GONE enum-told
--- | -- ---- an opened label
--- |
--- | enum_told : tie.Need-enum-told Inv μ
--- | enum_told c = search rules
 
 pub overflow_add-at : goal.overflow_add-at
 overflow_add-at c = omega (arith, (opened c).within)
@@ -69,11 +60,6 @@ loop-at-smaller-in-Open c = omega (arith, (opened c).within)
 pub loop-at-preserved-in-Open : goal.loop-at-preserved-in-Open
 loop-at-preserved-in-Open c = opened c
 
--- GONE enum-known-found
--- | -- ---- a leaf
--- |
--- | enum_known_found : tie.Need-enum-known-found Inv μ
--- | enum_known_found c = search rules
 
 pub returns-then-k-eq0 : goal.returns-then-k-eq0
 returns-then-k-eq0 c =

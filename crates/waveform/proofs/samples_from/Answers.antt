@@ -8,16 +8,10 @@ use Rattle.waveform.specs.Rows.{waveform}
 use borrow.Author.Rules.{rules}
 use Rattle.waveform.proofs.samples_from.Goals as goal
 
--- GONE enum-known-found
--- | enum_known_found : tie.Need-enum-known-found
--- | enum_known_found c = search rules
 
 pub overflow_add-place : goal.overflow_add-place
 overflow_add-place c = omega (arith, c.requires c.in-Is.start (ap counted c.in-Is.is))
 
--- GONE enum-known-found-2
--- | enum_known_found_2 : tie.Need-enum-known-found-2
--- | enum_known_found_2 c = search rules
 
 pub returns-in-Is : goal.returns-in-Is
 returns-in-Is c = ap answer c.unlabelled.ensures ∙ ap (mapped (row_at waveform)) (ap counted (sym c.in-Is.is))
