@@ -14,7 +14,7 @@ use Rattle.dot_lines.proofs.put_line.Goals as goal
 use Rattle.dot_lines.proofs.put_line.Goals.{At-loop-j}
 
 -- the buffer keeps its length, and the next byte of the line is put
-module _ (c : At-loop-j Inv μ) where
+module _ (c : At-loop-j) where
   abbrev window : List ℕ
   window = c.args.samples.now
 

@@ -10,7 +10,7 @@ use Rattle.joined.proofs.put_entries.Goals as goal
 use Rattle.joined.proofs.put_entries.Goals.{At-loop-i}
 
 -- the list keeps its length
-long : (c : At-loop-i Inv μ) → length c.loop-i.list ≡ length c.args.list.now
+long : (c : At-loop-i) → length c.loop-i.list ≡ length c.args.list.now
 long c =
     let a = c.args in
     same_long a.entries.now a.list.now _ c.loop-i.list c.loop-i.i c.loop-i.invariant (le_refl _) c.requires

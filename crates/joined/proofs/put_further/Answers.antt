@@ -12,13 +12,13 @@ use Rattle.joined.proofs.put_further.Goals as goal
 use Rattle.joined.proofs.put_further.Goals.{At-loop-i, In-loop-i}
 
 -- the list keeps its length
-long : (c : At-loop-i Inv μ) → length c.loop-i.list ≡ length c.args.list.now
+long : (c : At-loop-i) → length c.loop-i.list ≡ length c.args.list.now
 long c =
     let a = c.args in
     same_long (further a.versions a.base a.file.now a.passed) a.list.now a.entries c.loop-i.list c.loop-i.i c.loop-i.invariant c.requires.3 c.requires.4
 
 -- the entry of the second file's own index is there, and what is found from it is the joined one
-found : (c : In-loop-i Inv μ) → Further c.args.versions c.args.base
+found : (c : In-loop-i) → Further c.args.versions c.args.base
     c.args.file.now c.args.index.now c.args.passed c.loop-i.i
 found c =
     let a = c.args in

@@ -10,7 +10,7 @@ use Rattle.row_index.proofs.Building.{Comparing, nothing_compared, entry_agrees,
 use Rattle.row_index.proofs.entries_agree.Goals as goal
 use Rattle.row_index.proofs.entries_agree.Goals.{After-entry_from-place}
 
-entry : (c : After-entry_from-place Inv μ) → Entry c.args.versions c.args.file.now c.loop-done.done c.entry_from-place.result
+entry : (c : After-entry_from-place) → Entry c.args.versions c.args.file.now c.loop-done.done c.entry_from-place.result
 entry c =
     let v = c.args.versions in
     let f = c.args.file.now in

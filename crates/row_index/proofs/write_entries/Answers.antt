@@ -12,7 +12,7 @@ use Rattle.row_index.proofs.write_entries.Goals as goal
 use Rattle.row_index.proofs.write_entries.Goals.{At-loop-i}
 
 -- the list keeps its length
-long : (c : At-loop-i Inv μ) → length c.loop-i.list ≡ length c.args.list.now
+long : (c : At-loop-i) → length c.loop-i.list ≡ length c.args.list.now
 long c =
     let a = c.args in
     same_long (the_index a.versions a.file.now) a.list.now a.entries c.loop-i.list c.loop-i.i c.loop-i.invariant.put c.requires.1 c.requires.2

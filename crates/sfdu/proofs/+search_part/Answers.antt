@@ -8,7 +8,7 @@ use Rattle.sfdu.specs.Search.{searched}
 use Rattle.sfdu.specs.Private.{ObjectAt, Stands, Searched}
 use Rattle.sfdu.proofs.Nested.{starts, no_bytes, deepest, ends, faulty, leaf_found, leaf_passed, group_passed, group_faulty}
 use Rattle.sfdu.proofs.+search_part.Goals as goal
-use Rattle.sfdu.proofs.+search_part.Goals.{In-Group, In-Leaf, then-rows-k, else-rows-k}
+use Rattle.sfdu.proofs.+search_part.Goals.{In-Group, In-Leaf, else-rows-k, then-rows-k}
 
 leaf : (t : ℕ) (c : In-Leaf t)
     → ObjectAt c.args.versions c.args.part.now c.loop-at.at false c.in-Leaf.next
