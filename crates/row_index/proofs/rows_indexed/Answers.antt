@@ -8,15 +8,11 @@ use Rattle.sfdu.specs.Check.{check_labelled}
 use Rattle.row_index.specs.Index.{check_index}
 use Rattle.row_index.specs.Private.{the_index}
 use Rattle.row_index.proofs.Building.{entries_counted, rows_are_indexed, lengths_differ, not_checked}
-use borrow.Author.Rules.{rules}
 use Rattle.row_index.proofs.rows_indexed.Goals as goal
 use Rattle.row_index.proofs.rows_indexed.Goals.{In-Is}
 
 is : (c : In-Is) → check_labelled c.args.versions c.args.file.now ≡ answer c.in-Is.rows
 is c = sym c.check.ensures ∙ ap counted c.in-Is.is
-
-
-
 
 pub returns-then-list-groups : goal.returns-then-list-groups
 returns-then-list-groups c =
