@@ -3,7 +3,6 @@ use mathlib.Core.Path.{◌∙◌, ap}
 use Rattle.answer.specs.Outcome.{mapped}
 use Rattle.fixed_rows.specs.Shape.{row_at}
 use Rattle.bursts.specs.Rows.{bursts}
-use borrow.Author.Rules.{rules}
 use Rattle.bursts.proofs.find_row.Goals as goal
 
 pub returns : goal.returns

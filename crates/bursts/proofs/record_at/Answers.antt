@@ -7,11 +7,7 @@ use Rattle.answer.specs.Counted.{counted}
 use Rattle.answer.specs.Address.{unlabelled}
 use Rattle.fixed_rows.specs.Shape.{row_at}
 use Rattle.bursts.specs.Rows.{record_size, bursts}
-use borrow.Author.Rules.{rules}
 use Rattle.bursts.proofs.record_at.Goals as goal
-
-
-
 
 pub returns-in-Is : goal.returns-in-Is
 returns-in-Is c =

@@ -1,19 +1,11 @@
 -- `orbit::per_orbit_opening` meets its contract: what each time's call answered, in the definition's terms, picks the case.
 use mathlib.Core.Path.{◌∙◌, sym, ap}
-use borrow.Author.Rules.{rules}
 use Rattle.vax.specs.Decoded.{decoded}
 use Rattle.orbit.proofs.Times.{too_short, start_refused, stop_refused, both_read}
 use Rattle.orbit.proofs.per_orbit_opening.Goals as goal
 
 pub returns-then-bytes-lt20 : goal.returns-then-bytes-lt20
 returns-then-bytes-lt20 c = too_short c.args.bytes.now c.if-bytes-lt20.true
-
-
-
-
-
-
-
 
 pub returns-in-Refused : goal.returns-in-Refused
 returns-in-Refused c =

@@ -3,7 +3,6 @@ use Prim.Native.Nat.{◌+◌, ◌/◌, ◌%◌}
 use native.Mathlib.Omega.{arith}
 use mathlib.Core.Path.{◌≡◌}
 use lib.Ieee.Nearest.{closest}
-use borrow.Author.Rules.{rules}
 use Rattle.vax.proofs.Rounded.{eighth_is}
 use Rattle.vax.proofs.nearest_eighth.Goals as goal
 

@@ -4,7 +4,6 @@ use native.Mathlib.Omega.{arith}
 use mathlib.Core.Path.{◌≡◌, ◌∙◌, sym, ap}
 use mathlib.Core.List.{List}
 use lib.Ieee.{binary64, of_bits}
-use borrow.Author.Rules.{rules}
 use Rattle.answer.specs.Outcome.{answer}
 use Rattle.vax.specs.Fields.{word_at, sign_of, exponent}
 use Rattle.vax.specs.Private.{patterned}

@@ -1,6 +1,5 @@
 -- `vax::vax_f` meets its contract: `number` answers for the bits with 29 zeros more, which is the definition's float.
 use mathlib.Core.Path.{◌∙◌, sym}
-use borrow.Author.Rules.{rules}
 use Rattle.answer.specs.Outcome.{refuse}
 use Rattle.vax.specs.Decoded.{decoded}
 use Rattle.vax.specs.Numbers.{exact_F, vax_F}
@@ -13,11 +12,13 @@ use Rattle.vax.proofs.vax_f.Goals as goal
 pub returns-then-bytes-lt4 : goal.returns-then-bytes-lt4
 returns-then-bytes-lt4 c =
     let s = c.args.bytes.now in
-    both_clauses (ExactF s) (vax_F s) (vax_F_exact s) (refuse 1 0) (sym (too_short (exact_F s) s 4 c.if-bytes-lt4.true))
+    let both = both_clauses (ExactF s) (vax_F s) (vax_F_exact s) (refuse 1 0) (sym (too_short (exact_F s) s 4 c.if-bytes-lt4.true)) in
+    record { result_value = both.0; exact = both.1 }
 
 pub returns : goal.returns
 returns c =
     let bits = c.bits_f in
     let s = c.args.bytes.now in
-    both_clauses (ExactF s) (vax_F s) (vax_F_exact s) (decoded c.number.result)
-    (c.number.ensures ∙ from-F s bits.result bits.ensures.0 bits.ensures.1 c.if-bytes-lt4.false)
+    let both = both_clauses (ExactF s) (vax_F s) (vax_F_exact s) (decoded c.number.result)
+    (c.number.ensures ∙ from-F s bits.result bits.ensures.0 bits.ensures.1 c.if-bytes-lt4.false) in
+    record { result_value = both.0; exact = both.1 }

@@ -1,6 +1,5 @@
 -- `verdicts::find` meets its contract: the line that stands where the table's numbers have the number is the one that the table
 -- has for it.
-use borrow.Author.Rules.{rules}
 use Rattle.limits.specs.Limits.{table_of}
 use Rattle.verdicts.proofs.Search.{found_at_its_index}
 use Rattle.verdicts.proofs.find.Goals as goal

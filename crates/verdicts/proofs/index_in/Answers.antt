@@ -1,17 +1,11 @@
 -- `verdicts::index_in` meets its contract. The loop's invariant: the number is not among the first `i`. The measure is how
 -- many numbers are left.
-use Prim.Native.Nat.{◌+◌, ◌-◌, ◌≤◌}
 use native.Mathlib.Omega.{arith}
-use mathlib.Core.Path.{◌≡◌}
-use lib.ListN.{length, drop}
-use borrow.Author.Rules.{rules}
-use Rattle.verdicts.specs.Private.{index_in}
 use Rattle.verdicts.proofs.Search.{is_here, is_later, is_none}
 use Rattle.verdicts.proofs.index_in.Goals as goal
 
 pub loop-i-init : goal.loop-i-init
 loop-i-init c = (omega arith, omega arith)
-
 
 pub returns-then-here-number : goal.returns-then-here-number
 returns-then-here-number c =

@@ -1,19 +1,11 @@
 -- `verdicts::index_of` meets its contract: the numbers that are searched are those of the named table's lines, which is compared
 -- by computing both.
-use borrow.Author.Rules.{rules}
 use Rattle.limits.specs.AltimeterLimits.{altimeter_table}
 use Rattle.limits.specs.BurstLimits.{burst_table}
 use Rattle.limits.specs.Limits.{table_of}
 use Rattle.limits.proofs.Named.{of_the_named}
 use Rattle.verdicts.specs.Private.{numbers_of, index_in}
 use Rattle.verdicts.proofs.index_of.Goals as goal
-
-
-
-
-
-
-
 
 pub returns-in-Altimeter : goal.returns-in-Altimeter
 unfolding altimeter_table

@@ -2,12 +2,8 @@
 use mathlib.Core.Path.{sym, ap, ◌∙◌}
 use mir.Syntax.{w64}
 use mir.ValLaws.{to_z-of_z}
-use borrow.Author.Rules.{rules}
 use Rattle.verdicts.specs.Private.{found}
 use Rattle.verdicts.proofs.verdict.Goals as goal
-
-
-
 
 pub returns-in_default : goal.returns-in_default
 returns-in_default c = simp (sym c.find-line.ensures ∙ ap found c.in_default.is)

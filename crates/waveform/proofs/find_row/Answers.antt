@@ -5,7 +5,6 @@ use Rattle.fixed_rows.specs.Shape.{row_at}
 use Rattle.fixed_rows.proofs.Rows.{found_within}
 use Rattle.waveform.specs.Rows.{row_size, waveform}
 use Rattle.waveform.proofs.Rows.{takes_bytes}
-use borrow.Author.Rules.{rules}
 use Rattle.waveform.proofs.find_row.Goals as goal
 
 pub samples_from-requires : goal.samples_from-requires

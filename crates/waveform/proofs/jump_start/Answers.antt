@@ -1,21 +1,17 @@
 -- `jump_start` meets its contract: by whether there is such a row; one that is there starts in the file, so that its place fits.
 use native.Mathlib.Omega.{arith}
 use mathlib.Core.Path.{◌∙◌, sym, ap}
-use borrow.Author.Rules.{rules}
 use Rattle.answer.specs.Outcome.{answer}
 use Rattle.answer.specs.Counted.{counted}
 use Rattle.fixed_rows.proofs.Rows.{numbered_inside}
 use Rattle.waveform.specs.Rows.{row_size}
 use Rattle.waveform.proofs.jump_start.Goals as goal
 
-
 pub row_start-requires : goal.row_start-requires
 row_start-requires c =
     let a = c.args in
-    let number = c.number-1.given in
-    let there = numbered_inside 0 row_size a.file.now a.k number.0.0 (sym c.row_numbered.ensures ∙ ap counted number.1) in
-    omega (arith, there, c.well-formed.1)
-
+    let there = numbered_inside 0 row_size a.file.now a.k c.in-Is.number (sym c.row_numbered.ensures ∙ ap counted c.in-Is.is) in
+    omega (arith, there)
 
 pub returns-in-Is : goal.returns-in-Is
 returns-in-Is c = ap answer c.row_start.ensures ∙ simp (sym c.row_numbered.ensures ∙ ap counted c.in-Is.is)

@@ -6,7 +6,6 @@ use Rattle.fixed_rows.proofs.JumpIsRead.{jump_start_is_read_start}
 use Rattle.fixed_rows.proofs.Rows.{found_within}
 use Rattle.waveform.specs.Rows.{row_size, waveform}
 use Rattle.waveform.proofs.Rows.{takes_bytes}
-use borrow.Author.Rules.{rules}
 use Rattle.waveform.proofs.jump_to.Goals as goal
 
 pub samples_from-requires : goal.samples_from-requires

@@ -4,7 +4,6 @@ use Rattle.answer.specs.Outcome.{mapped}
 use Rattle.fixed_rows.specs.Shape.{row_at}
 use Rattle.fixed_rows.proofs.GoingOn.{start_within}
 use Rattle.waveform.specs.Rows.{row_size, waveform}
-use borrow.Author.Rules.{rules}
 use Rattle.waveform.proofs.row_from.Goals as goal
 
 pub samples_from-requires : goal.samples_from-requires

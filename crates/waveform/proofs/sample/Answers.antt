@@ -1,7 +1,6 @@
 -- `sample` meets its contract: the byte, its double and the difference are numbers that an `i64` holds.
 use Prim.Native.Nat.{◌*◌}
 use native.Mathlib.Omega.{arith}
-use borrow.Author.Rules.{rules}
 use mir.Syntax.{w64}
 use mir.Facts.{to_z_pos, to_z-of_z}
 use Rattle.waveform.proofs.Amplitude.{amplitude_fits, difference_fits}
