@@ -5,7 +5,6 @@ use mathlib.Core.Path.{◌≡◌, ◌∙◌, sym, ap}
 use lib.Dec.{eqb}
 use lib.ListN.{length}
 use Rattle.house_record.proofs.Reading.{too_few_bytes, wrong_length, wrong_kind, whole_entries_decide}
-use borrow.Author.Rules.{rules}
 use Rattle.house_record.proofs.is_record.Goals as goal
 
 pub returns-then-bytes-lt-FRONT : goal.returns-then-bytes-lt-FRONT
