@@ -25,7 +25,7 @@ returns-then-follows-bytes c =
 pub returns-then-found-kind : goal.returns-then-found-kind
 returns-then-found-kind c =
     let a = c.args in
-    sym (wrong_kind a.kind (6 + a.between) a.bytes.now c.two_at-found.ensures c.if-found-kind.true)
+    sym (wrong_kind a.kind (6 + a.between) a.bytes.now c.two_at-found.ensures (λ e. c.if-found-kind.true (cc)))
 
 pub returns : goal.returns
 returns c =
