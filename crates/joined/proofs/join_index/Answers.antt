@@ -3,7 +3,6 @@
 use mathlib.Core.Path.{◌≡◌, ◌∙◌, sym, ap}
 use mathlib.Core.List.{List}
 use lib.ListN.{length}
-use borrow.Author.Rules.{rules}
 use Rattle.answer.specs.Outcome.{Outcome, answer, mapped}
 use Rattle.answer.specs.Counted.{counted}
 use Rattle.answer.specs.Filled.{filled}
@@ -24,14 +23,8 @@ first c =
 pub returns-then-sum-gt-LARGEST_FILE : goal.returns-then-sum-gt-LARGEST_FILE
 returns-then-sum-gt-LARGEST_FILE c =
     let a = c.args in
-    refused_build a.list.now (sum_too_long a.versions a.first.now a.index.now a.second.now a.other.now _ c.if-sum-gt-LARGEST_FILE.true)
-
-
-
-
-
-
-
+    let both = refused_build a.list.now (sum_too_long a.versions a.first.now a.index.now a.second.now a.other.now _ c.if-sum-gt-LARGEST_FILE.true) in
+    record { answers = both.0; leaves = both.1 }
 
 pub put_joined-requires : goal.put_joined-requires
 put_joined-requires c =
@@ -43,17 +36,18 @@ put_joined-requires c =
 pub returns-in-Refused : goal.returns-in-Refused
 returns-in-Refused c =
     let a = c.args in
-    refused_build a.list.now
+    let both = refused_build a.list.now
     (first_refused a.versions a.first.now a.index.now a.second.now a.other.now _ c.if-sum-gt-LARGEST_FILE.false _ _
-    (refused_is_checked a.versions a.first.now a.index.now _ _ (sym c.rows_indexed.ensures ∙ ap counted c.in-Refused.is)))
+    (refused_is_checked a.versions a.first.now a.index.now _ _ (sym c.rows_indexed.ensures ∙ ap counted c.in-Refused.is))) in
+    record { answers = both.0; leaves = both.1 }
 
 pub returns-in-Refused-rows_indexed : goal.returns-in-Refused-rows_indexed
 returns-in-Refused-rows_indexed c =
     let a = c.args in
-    refused_build a.list.now
+    let both = refused_build a.list.now
     (second_refused a.versions a.first.now a.index.now a.second.now a.other.now _ c.if-sum-gt-LARGEST_FILE.false (first (goal.at.returns-in-Refused-rows_indexed c).In-Is).0 _ _
-    (refused_is_checked a.versions a.second.now a.other.now _ _ (sym c.rows_indexed-in-Is.ensures ∙ ap counted c.in-Refused-rows_indexed.is)))
-
+    (refused_is_checked a.versions a.second.now a.other.now _ _ (sym c.rows_indexed-in-Is.ensures ∙ ap counted c.in-Refused-rows_indexed.is))) in
+    record { answers = both.0; leaves = both.1 }
 
 pub returns-in-Is-rows_indexed : goal.returns-in-Is-rows_indexed
 returns-in-Is-rows_indexed c =

@@ -1,12 +1,11 @@
 -- `joined::put_further` meets its contract. The measure is what is left of the entries; the invariant is `Putting`, and the entry that
 -- the walk came to is `found`.
-use Prim.Native.Nat.{ℕ, ◌+◌, ◌-◌}
+use Prim.Native.Nat.{ℕ, ◌+◌}
 use native.Mathlib.Omega.{arith}
 use mathlib.Core.Path.{◌≡◌, ◌∙◌, ap}
 use lib.ListN.{length}
-use borrow.Author.Rules.{rules}
 use Rattle.joined.specs.Private.{further}
-use Rattle.answer.proofs.Writers.{Putting, nothing_put, one_put, same_long, all_put}
+use Rattle.answer.proofs.Writers.{nothing_put, one_put, same_long, all_put}
 use Rattle.joined.proofs.Writing.{Further, further_entry}
 use Rattle.joined.proofs.put_further.Goals as goal
 use Rattle.joined.proofs.put_further.Goals.{At-loop-i, In-loop-i}
@@ -32,7 +31,6 @@ loop-i-init c =
 pub bounds-index-i : goal.bounds-index-i
 bounds-index-i c = (found (goal.at.bounds-index-i c).In-loop-i).inside
 
-
 pub overflow_add-moved : goal.overflow_add-moved
 overflow_add-moved c = omega (arith, c.entry_from-place.ensures.1, c.requires.0)
 
@@ -48,7 +46,6 @@ loop-i-preserved c =
     let a = c.args in
     one_put (further a.versions a.base a.file.now a.passed) a.list.now a.entries w.list w.i w.invariant c.requires.3 c.requires.4 _ c.loop-i-test.true
     (ap (λ (p : ℕ). a.base + p) c.entry_from-place.ensures.0 ∙ (found (goal.at.loop-i-preserved c).In-loop-i).is)
-
 
 pub returns : goal.returns
 returns c =
