@@ -13,7 +13,6 @@ use Rattle.kept_rows.proofs.Kind2.{rows_are_there}
 use Rattle.kept_check.specs.Check.{check_kept2}
 use Rattle.kept_check.specs.Private.{rows_borne_out}
 use Rattle.kept_check.proofs.Borne.{borne, check_by_rows}
-use borrow.Author.Rules.{rules}
 use Rattle.kept_check.proofs.check.Goals as goal
 use Rattle.kept_check.proofs.check.Goals.{After-number_at-told, In-Is}
 
@@ -22,24 +21,22 @@ are : (c : In-Is) → rows_borne_out c.args.versions 2 10 c.args.file.now c.args
 are c = sym c.rows_borne_out.ensures ∙ ap counted c.in-Is.is
 
 -- the check's answer, once the counts are compared
-judged : (c : After-number_at-told) (t : Bool) → eqb c.number_at-told.result c.in-Is.rows ≡ t
+judged : (c : After-number_at-told) (t : Bool) → rows_borne_out c.args.versions 2 10 c.args.file.now c.args.kept.now ≡ answer c.in-Is.rows
+    → eqb c.number_at-told.result c.in-Is.rows ≡ t
     → need t 11 (answer tt) ≡ check_kept2 c.args.versions c.args.file.now c.args.kept.now
-judged c t e =
+judged c t is e =
     let a = c.args in
     let f = a.file.now in
     let s = a.kept.now in
     let n = c.in-Is.rows in
-    let told = c.number_at-told.ensures ∙ rows_are_there s (borne a.versions 2 10 f s n (are c.In-Is)).is_record in
+    let told = c.number_at-told.ensures ∙ rows_are_there s (borne a.versions 2 10 f s n is).is_record in
     ap (λ (b : Bool). need b 11 (answer tt)) (sym e ∙ ap (λ (m : ℕ). eqb m n) told)
     ∙ sym
     (check_by_rows a.versions f s
-    ∙ after_answer (rows_borne_out a.versions 2 10 f s) (λ m. need (eqb (le_number (bytes_at s 6 4)) m) 11 (answer tt)) n (are c.In-Is))
-
-
-
+    ∙ after_answer (rows_borne_out a.versions 2 10 f s) (λ m. need (eqb (le_number (bytes_at s 6 4)) m) 11 (answer tt)) n is)
 
 pub returns-then-told-rows : goal.returns-then-told-rows
-returns-then-told-rows c = judged (goal.at.returns-then-told-rows c).After-number_at-told _ (ne_eqb _ _ c.if-told-rows.true)
+returns-then-told-rows c = judged (goal.at.returns-then-told-rows c).After-number_at-told _ (are (goal.at.returns-then-told-rows c).In-Is) (ne_eqb _ _ c.if-told-rows.true)
 
 pub returns-in-Refused : goal.returns-in-Refused
 returns-in-Refused c =
@@ -52,4 +49,4 @@ returns-in-Refused c =
     (sym c.rows_borne_out.ensures ∙ ap counted c.in-Refused.is))
 
 pub returns-else-told-rows : goal.returns-else-told-rows
-returns-else-told-rows c = judged (goal.at.returns-else-told-rows c).After-number_at-told _ (eq-eqb _ _ c.if-told-rows.false)
+returns-else-told-rows c = judged (goal.at.returns-else-told-rows c).After-number_at-told _ (are (goal.at.returns-else-told-rows c).In-Is) (eq-eqb _ _ c.if-told-rows.false)

@@ -1,16 +1,13 @@
 -- `kept_check::entries_agree` meets its contract. The measure is what is left of the entries; the invariant is `Comparing`, as for a list
 -- of numbers, of the list that the record keeps.
-use Prim.Native.Nat.{◌-◌}
 use native.Mathlib.Omega.{arith}
 use mathlib.Core.Path.{◌≡◌, ◌∙◌, sym, subst}
 use lib.ListN.{length, get_or, drop}
-use borrow.Author.Rules.{rules}
 use Rattle.row_index.proofs.Entries.{Entry, entry_found}
-use Rattle.row_index.proofs.Building.{Comparing, nothing_compared, entry_agrees, entry_differs, all_compared}
+use Rattle.row_index.proofs.Building.{nothing_compared, entry_agrees, entry_differs, all_compared}
 use Rattle.house_record.specs.Record.{entries_of}
 use Rattle.house_record.proofs.Entries.{length_entries}
 use Rattle.house_record.proofs.Reading.{entry_from_place}
-use Rattle.kept_check.proofs.entries_agree.Invariants.{told}
 use Rattle.kept_check.proofs.entries_agree.Goals as goal
 use Rattle.kept_check.proofs.entries_agree.Goals.{After-entry_from-place, After-number_at-entry, At-loop-done}
 
@@ -28,6 +25,13 @@ entry c =
     let f = a.file.now in
     subst (Entry v f c.loop-done.done) (sym c.entry_from-place.ensures.0)
     (entry_found v f c.loop-done.done c.loop-done.from c.loop-done.leaves c.loop-done.invariant.at (omega (arith, c.requires.1, c.loop-done-test.true)))
+
+-- the entry that the record has
+told : (c : After-number_at-entry) → get_or (entries_of c.args.count (drop c.args.first c.args.kept.now)) c.loop-done.done 0 ≡ c.number_at-entry.result
+told c =
+    let a = c.args in
+    entry_from_place a.first a.count c.loop-done.done a.kept.now c.loop-done-test.true c.requires.0
+    ∙ sym c.number_at-entry.ensures
 
 pub loop-done-init : goal.loop-done-init
 loop-done-init c =

@@ -5,7 +5,6 @@ use Prim.Native.Nat.{◌+◌, ◌-◌, ◌/◌}
 use mathlib.Core.Path.{◌≡◌, ◌∙◌, sym, ap}
 use mathlib.Core.Bool.{true}
 use lib.ListN.{length, drop}
-use borrow.Author.Tests.{not-true, not-false}
 use Rattle.answer.specs.Outcome.{answer}
 use Rattle.answer.specs.Counted.{counted}
 use Rattle.sfdu.specs.Check.{check_labelled}
@@ -15,7 +14,6 @@ use Rattle.house_record.specs.Record.{entries_of, is_kept}
 use Rattle.house_record.proofs.Entries.{length_entries}
 use Rattle.house_record.proofs.Reading.{Accepted, accepted}
 use Rattle.kept_check.proofs.Borne.{not_accepted, no_record, compared}
-use borrow.Author.Rules.{rules}
 use Rattle.kept_check.proofs.rows_borne_out.Goals as goal
 use Rattle.kept_check.proofs.rows_borne_out.Goals.{Else-not-is_record, In-Is}
 
@@ -29,9 +27,6 @@ says : (c : Else-not-is_record) → Accepted c.args.kind (6 + c.args.between) c.
 says c =
     let a = c.args in
     accepted a.kind (6 + a.between) a.kept.now (is_a_record c)
-
-
-
 
 pub returns-then-not-is_record : goal.returns-then-not-is_record
 returns-then-not-is_record c =

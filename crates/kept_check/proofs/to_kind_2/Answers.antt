@@ -1,6 +1,6 @@
 -- `kept_check::to_kind_2` meets its contract: refused with the list, or its entries behind the head of kind 2 where there is room.
 use native.Mathlib.Omega.{arith}
-use Prim.Native.Nat.{◌+◌, ◌-◌}
+use Prim.Native.Nat.{◌+◌}
 use mathlib.Core.Path.{◌≡◌, ◌∙◌, sym, ap, ap₂}
 use mathlib.Core.List.{◌++◌}
 use lib.ListN.{length}
@@ -16,7 +16,6 @@ use Rattle.house_record.proofs.Reading.{accepted, all_there}
 use Rattle.kept_rows.specs.Kind2.{kept_form2}
 use Rattle.kept_check.specs.Private.{rows_borne_out}
 use Rattle.kept_check.proofs.Borne.{Borne, borne, there_by_rows, way_there}
-use borrow.Author.Rules.{rules}
 use Rattle.kept_check.proofs.to_kind_2.Goals as goal
 use Rattle.kept_check.proofs.to_kind_2.Goals.{After-number_at-follows, In-Is}
 
@@ -30,17 +29,14 @@ says c =
     borne a.versions 1 6 a.file.now a.kept.now _ (are c)
 
 -- the length field of the record
-follows : (c : After-number_at-follows) → c.number_at-follows.result + 4 ≡ length c.args.kept.now
-follows c =
+follows : (c : After-number_at-follows) → Borne c.args.versions 1 6 c.args.file.now c.args.kept.now c.in-Is.rows → c.number_at-follows.result + 4 ≡ length c.args.kept.now
+follows c b =
     let s = c.args.kept.now in
-    let a = accepted 1 6 s (says c.In-Is).is_record in
+    let a = accepted 1 6 s b.is_record in
     omega (arith, a.long, a.size, c.number_at-follows.ensures ∙ all_there s 0 (omega (arith, a.long)))
 
-
-
-
 pub overflow_add-follows : goal.overflow_add-follows
-overflow_add-follows c = let b = says (goal.at.overflow_add-follows c).In-Is in omega (arith, follows c, b.few, b.size)
+overflow_add-follows c = let b = says (goal.at.overflow_add-follows c).In-Is in omega (arith, follows (goal.at.overflow_add-follows c).After-number_at-follows b, b.few, b.size)
 
 pub overflow_cast-rows : goal.overflow_cast-rows
 overflow_cast-rows c = omega (arith, (says (goal.at.overflow_cast-rows c).In-Is).few)
@@ -62,12 +58,11 @@ returns-in-Refused c =
     ∙ after_refusal (rows_borne_out a.versions 1 6 f s) (λ n. and_then (read_kept s) (λ xs. in_room room (kept_form2 (record { rows = n; list = xs })))) _ _
     (sym c.rows_borne_out.ensures ∙ ap counted c.in-Refused.is))
 
-
 pub returns-in-Is : goal.returns-in-Is
 returns-in-Is c =
     let a = c.args in
     let s = a.kept.now in
     let room = length a.out.now in
     let bytes = each_below 256 s (λ i h. omega (arith, c.shared_slice_known-2-1.given i)) in
-    let there = way_there a.versions a.file.now s room _ (are (goal.at.returns-in-Is c).In-Is) bytes (c.number_at-follows.result + 4) (follows (goal.at.returns-in-Is c).After-number_at-follows) in
+    let there = way_there a.versions a.file.now s room _ (are (goal.at.returns-in-Is c).In-Is) bytes (c.number_at-follows.result + 4) (follows (goal.at.returns-in-Is c).After-number_at-follows (says (goal.at.returns-in-Is c).In-Is)) in
     rw (there ∙ ap (in_room room) (ap₂ ◌++◌ (sym c.head-front.ensures) (sym (all_that_is_left s 6)))) c.put.ensures
