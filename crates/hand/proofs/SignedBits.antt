@@ -1,5 +1,5 @@
 -- A signed number of 64 bits that is below 0 is −1 − n for an n below 2^63, and one that is not is n; its bits are read off n.
-use Prim.Native.Nat.{ℕ, suc, ◌-◌, ◌<◌}
+use Prim.Native.Nat.{ℕ, suc, ◌<◌}
 use native.Mathlib.Omega.{arith}
 use mathlib.Core.Path.{◌≡◌, refl, ◌∙◌, ap}
 use mathlib.Core.Bool.{true, false}

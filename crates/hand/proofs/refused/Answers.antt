@@ -2,7 +2,6 @@
 use Prim.Native.Nat.{ℕ}
 use mathlib.Core.Path.{ap}
 use Rattle.hand.specs.Handed.{refused_as}
-use borrow.Author.Rules.{rules}
 use Rattle.hand.proofs.refused.Goals as goal
 
 pub returns : goal.returns

@@ -8,7 +8,6 @@ use Rattle.answer.specs.declared.Nesting.{Nesting}
 use Rattle.answer.specs.declared.Shown.{Shown}
 use Rattle.hand.specs.Parts.{nesting_number, depth_handed, outermost_handed, row_numbers}
 use Rattle.hand.proofs.Handing.{answered_result, answered_part, refused_result, refused_part}
-use borrow.Author.Rules.{rules}
 use Rattle.hand.proofs.row.Goals as goal
 
 -- the six numbers of a row that is nested so
@@ -18,24 +17,17 @@ in_six : (old : List ℕ) (s : Shown) {n : Nesting} → s.address.nesting ≡ n
 in_six old s e =
     ap (λ (n : Nesting). s.part.place ∷ s.part.count ∷ s.address.label ∷ nesting_number n ∷ depth_handed n (get_or old 4 0) ∷ outermost_handed n (get_or old 5 0) ∷ []) (sym e)
 
-
-
-
-
-
-
-
 pub returns-in-Known : goal.returns-in-Known
 returns-in-Known c =
     let old = c.args.numbers.now in
-    let s = c.answer-1.given in
-    let e = ap shown s.1 in record { value = answered_result e; numbers_after = in_six old s.0.0 c.in-Known.is ∙ answered_part (row_numbers old) _ e }
+    let e = ap shown c.in-Is.is in
+    record { value = answered_result e; numbers_after = in_six old c.in-Is.s c.in-Known.is ∙ answered_part (row_numbers old) _ e }
 
 pub returns-in-Absent : goal.returns-in-Absent
 returns-in-Absent c =
     let old = c.args.numbers.now in
-    let s = c.answer-1.given in
-    let e = ap shown s.1 in record { value = answered_result e; numbers_after = in_six old s.0.0 c.in-Absent.is ∙ answered_part (row_numbers old) _ e }
+    let e = ap shown c.in-Is.is in
+    record { value = answered_result e; numbers_after = in_six old c.in-Is.s c.in-Absent.is ∙ answered_part (row_numbers old) _ e }
 
 pub returns-in-Refused : goal.returns-in-Refused
 returns-in-Refused c =

@@ -2,15 +2,7 @@
 use mathlib.Core.Path.{◌∙◌, ap}
 use Rattle.verdicts.specs.Judged.{judged}
 use Rattle.hand.proofs.Handing.{answered_result, answered_part, refused_result, refused_part}
-use borrow.Author.Rules.{rules}
 use Rattle.hand.proofs.side.Goals as goal
-
-
-
-
-
-
-
 
 pub returns-in-Below : goal.returns-in-Below
 returns-in-Below c =
