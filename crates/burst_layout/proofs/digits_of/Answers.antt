@@ -1,7 +1,6 @@
 -- `burst_layout::digits_of` meets its contract: the shift leaves the four digits lowest, and they are cut off.
 use Prim.Native.Nat.{ℕ, ◌-◌, ◌*◌, ◌/◌, ◌%◌, ◌^◌}
 use mathlib.Core.Path.{ap}
-use borrow.Author.Rules.{rules}
 use Rattle.burst_layout.proofs.digits_of.Goals as goal
 
 pub returns : goal.returns

@@ -2,7 +2,6 @@
 -- for any other say its field.
 use native.Mathlib.Omega.{arith}
 use mathlib.Core.Path.{sym, ap, ◌∙◌}
-use borrow.Author.Rules.{rules}
 use Rattle.answer.specs.Outcome.{answer}
 use Rattle.burst_layout.specs.Layout.{field_at}
 use Rattle.burst_layout.proofs.Lines.{unpacked, is_said, is_refused}
@@ -17,5 +16,5 @@ returns-then-position-gt-FIELDS c = sym (is_refused c.args.position c.if-positio
 pub returns : goal.returns
 returns c =
     let n = c.args.position in
-    rw (c.type_of.ensures, c.type_size.ensures) (ap (λ d. answer (unpacked n d)) c.digits_of-digits.ensures)
+    rw (c.type_of.ensures, c.size_of.ensures) (ap (λ d. answer (unpacked n d)) c.digits_of-digits.ensures)
     ∙ sym (is_said n (omega arith) (omega arith))

@@ -1,4 +1,5 @@
 -- `burst_layout::size_of` meets its contract: each arm has its digit, and the last one any other.
+use native.Mathlib.Omega.{arith}
 use mathlib.Core.Path.{sym, ap}
 use borrow.Author.Tests.{ne_eqb}
 use Rattle.burst_layout.specs.Private.{size_of}
@@ -16,5 +17,4 @@ returns-in-5 c = sym (ap size_of c.in-5.is)
 pub returns-in_default : goal.returns-in_default
 returns-in_default c =
     let d = c.args.digit in
-    let r = c.in_default.rest in
-    simp (ne_eqb d 3 r.0.0.1, ne_eqb d 4 r.0.1, ne_eqb d 5 r.1)
+    simp (ne_eqb d 3 (omega arith), ne_eqb d 4 (omega arith), ne_eqb d 5 (omega arith))
