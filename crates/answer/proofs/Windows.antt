@@ -12,7 +12,6 @@ use Rattle.answer.proofs.Outcomes.{answer_injective, answer_is_no_refusal}
 use Rattle.answer.specs.Outcome.{Outcome, answer, refuse, need, and_then, mapped}
 use Rattle.answer.specs.Address.{without_depth}
 use Rattle.answer.specs.Window.{fits, window_at, window_in, bytes_at}
-use Rattle.answer.specs.declared.Address.{Address}
 use Rattle.answer.specs.declared.Shown.{Shown}
 
 -- the window begins in the row or at its end, and ends in it

@@ -58,6 +58,16 @@ module _ (w ys old front back : List ℕ) (n : ℕ) (h : length w ≡ n) (room :
       both : n + length ys ≡ length (w ++ ys)
       both = omega (arith, length-append w ys)
 
+-- Two pieces copied side by side, the first to the front and the second behind it: the lent memory then holds them and the rest of
+-- what it held.
+pub pieces_put : (w ys old : List ℕ) (n m : ℕ) → length w ≡ n → length ys ≡ m
+    → put_mid n m (w ++ drop n old) ys ≡ (w ++ ys) ++ drop (length (w ++ ys)) old
+pieces_put w ys old n m h k =
+    let both : m + n ≡ length (w ++ ys) = omega (arith, length-append w ys) in
+    let rest : drop m (drop n old) ≡ drop (length (w ++ ys)) old = drop-drop m n old ∙ ap (λ (i : ℕ). drop i old) (omega (arith, both)) in
+    rw (take_at w (drop n old) n h, drop_at w (drop n old) n h, rest)
+    (sym (append_assoc w ys (drop (length (w ++ ys)) old)))
+
 -- A loop that writes `xs` over `old` from the front, one a turn: after i turns the list holds the first i of `xs` and the rest
 -- of `old`.
 module _ (xs old : List ℕ) (i : ℕ) where

@@ -1,6 +1,6 @@
 -- Cited only by promises of private functions: eight samples compared with eight numbers at once, four in each of two words, and the
 -- eight bits gathered in a byte.
-use Rattle.std.specs.Prelude.{ℕ, ◌+◌, ◌-◌, ◌*◌, ◌/◌, ◌%◌, cond, List, length, get_or, ltb}
+use Rattle.std.specs.Prelude.{ℕ, ◌+◌, ◌*◌, ◌/◌, ◌%◌, cond, List, length, get_or, ltb}
 use Rattle.dots.specs.Tone.{tone}
 use Rattle.dots.specs.Matrix.{level}
 use Rattle.dots.specs.Dot.{is_dot, bit}

@@ -1,5 +1,5 @@
 -- Document 02, item 10: joining is associative, and the empty file changes nothing (`rolls`).
-use Prim.Native.Nat.{ℕ, ◌+◌, ◌≤◌}
+use Prim.Native.Nat.{ℕ, ◌≤◌}
 use native.Mathlib.Omega.{arith}
 use mathlib.Core.Path.{◌≡◌, refl, ◌∙◌, sym, ap}
 use mathlib.Core.List.{List, [], ◌++◌, append_assoc, append-nil, map, map-append}

@@ -1,6 +1,6 @@
 -- `closest n u`, n / u rounded to a whole number, gives the nearest multiple of u: no other multiple is nearer to n, and where another is
 -- as near, the number is even and the other one odd.
-use Prim.Native.Nat.{ℕ, suc, ◌+◌, ◌-◌, ◌*◌, ◌/◌, ◌%◌, ◌≤◌, ◌<◌, compare, Ordering}
+use Prim.Native.Nat.{ℕ, suc, ◌+◌, ◌*◌, ◌/◌, ◌%◌, ◌≤◌, ◌<◌, compare, Ordering}
 use native.Mathlib.Nat.{eq-zero-or-pos, mul-le-mul_right, suc-mul, mod-lt, div-add-mod', eq_of_mul-eq-mul_right}
 use native.Mathlib.Omega.{arith}
 use mathlib.Core.Path.{◌≡◌, sym, subst}

@@ -7,13 +7,13 @@ use lib.ListN.{length}
 use borrow.Author.Tests.{le-leb, lt-leb, leb-true}
 use lib.Dec.{leb}
 use Rattle.label.specs.declared.Versions.{Versions}
-use Rattle.answer.specs.Outcome.{Outcome, answer, refuse, and_then, mapped}
+use Rattle.answer.specs.Outcome.{Outcome, answer, refuse, mapped}
 use Rattle.answer.specs.Nth.{nth}
 use Rattle.answer.specs.Size.{largest_file}
-use Rattle.answer.proofs.Outcomes.{passed, after_answer, after_refusal}
+use Rattle.answer.proofs.Outcomes.{passed, after_answer}
 use Rattle.sfdu.specs.Row.{Row, whole}
 use Rattle.sfdu.specs.Scan.{scan}
-use Rattle.sfdu.specs.Check.{counting, rows_of_file, check_labelled}
+use Rattle.sfdu.specs.Check.{rows_of_file}
 use Rattle.sfdu.specs.Find.{find_row}
 use Rattle.sfdu.specs.Search.{nothing_seen, see_all, MarksInside}
 use Rattle.sfdu.specs.Private.{Searched}

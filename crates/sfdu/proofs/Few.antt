@@ -17,6 +17,8 @@ module _ (versions : Versions) where
   few_leaves : (left : ℕ) (F : Forest) → Valid versions left F → (depth : ℕ) (outermost : ℕ → ℕ) (at : ℕ)
       → 20 * length (leaves depth outermost at F) ≤ length (encode F)
   few_leaves zero done v depth outermost at = omega arith
+  few_leaves zero (leaf label value rest) v depth outermost at = elim v [ ]
+  few_leaves zero (group label inside rest) v depth outermost at = elim v [ ]
   few_leaves (suc left) done v depth outermost at = omega arith
   few_leaves (suc left) (leaf label value rest) (is, v) depth outermost at =
       omega (

@@ -17,7 +17,7 @@ use Rattle.label.specs.Label.{read_label}
 use Rattle.label.specs.Opened.{is_opened}
 use Rattle.label.proofs.Reading.{read_depends_on_20_bytes}
 use Rattle.sfdu.specs.Row.{Row}
-use Rattle.sfdu.specs.Scan.{Inside, object, on_label, rows_of, level, objects, scan}
+use Rattle.sfdu.specs.Scan.{Inside, object, on_label, rows_of, level, objects}
 use Rattle.sfdu.specs.Forest.{Forest, done, leaf, group, encode, IsLabel, Valid, leaves}
 use Rattle.sfdu.proofs.ForestOf.{node, trees, forest_of}
 use Rattle.sfdu.proofs.Steps.{at_the_end, one_more, one_object, Taken, taken, takes}

@@ -1,6 +1,6 @@
 -- An object's class decides whether it is opened and its version how its length is written, and both nothing else: each side of
 -- `LabelsAlike` is brought to a form in which the label does not occur.
-use Prim.Native.Nat.{ℕ, ◌+◌, ◌-◌, ◌≤◌, ◌<◌}
+use Prim.Native.Nat.{ℕ, ◌+◌, ◌≤◌, ◌<◌}
 use native.Mathlib.Nat.{lt_of_not-le}
 use native.Mathlib.Decide.{dec_le}
 use native.Mathlib.Omega.{arith}
@@ -9,7 +9,7 @@ use mathlib.Core.Bool.{Bool, true}
 use mathlib.Core.List.{List, ◌++◌}
 use lib.ListN.{length, take, drop, length-append}
 use lib.Seq.{drop_at, drop-drop}
-use Rattle.answer.specs.Outcome.{Outcome, answer, refuse, and_then}
+use Rattle.answer.specs.Outcome.{answer, refuse, and_then}
 use Rattle.label.specs.declared.Versions.{Versions}
 use Rattle.label.specs.Label.{read_label}
 use Rattle.label.proofs.Reading.{read_depends_on_20_bytes}

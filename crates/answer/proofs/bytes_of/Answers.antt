@@ -2,7 +2,6 @@
 use mathlib.Core.Path.{sym}
 use native.Mathlib.Nat.{le_of_lt}
 use Rattle.answer.proofs.Parts.{nothing_past_the_end, no_more_than_is_left, from_to}
-use borrow.Author.Rules.{rules}
 use Rattle.answer.proofs.bytes_of.Goals as goal
 
 pub returns-then-file-place : goal.returns-then-file-place

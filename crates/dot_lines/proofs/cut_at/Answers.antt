@@ -2,7 +2,6 @@
 use native.Mathlib.Omega.{arith}
 use Prim.Native.Nat.{ℕ, ◌+◌}
 use mathlib.Core.Path.{ap}
-use borrow.Author.Rules.{rules}
 use Rattle.dot_lines.specs.Private.{cut}
 use Rattle.dot_lines.proofs.Threshold.{threshold_small}
 use Rattle.dot_lines.proofs.cut_at.Goals as goal

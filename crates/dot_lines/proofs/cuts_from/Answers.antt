@@ -1,7 +1,6 @@
 -- `dot_lines::cuts_from` meets its contract: lane by lane.
 use native.Mathlib.Omega.{arith}
 use mathlib.Core.Path.{◌∙◌}
-use borrow.Author.Rules.{rules}
 use Rattle.dot_lines.specs.Private.{cuts_from}
 use Rattle.dot_lines.proofs.cuts_from.Goals as goal
 

@@ -3,7 +3,6 @@ use native.Mathlib.Omega.{arith}
 use mathlib.Core.Path.{◌∙◌, sym, ap, subst}
 use mathlib.Core.Bool.{Bool}
 use lib.ListN.{length}
-use borrow.Author.Rules.{rules}
 use borrow.Author.Tests.{le-leb, lt-leb}
 use Rattle.answer.specs.Outcome.{answer, need}
 use Rattle.answer.specs.Filled.{Writes}
@@ -19,7 +18,6 @@ returns-then-out-bytes c =
     refused_writes_nothing a.out.now
     (ap (λ (b : Bool). need b 8 (answer (line a.y a.samples.now)))
     (lt-leb (line_bytes (length a.samples.now)) (length a.out.now) (omega (arith, c.if-out-bytes.true, c.line_bytes-bytes.ensures))))
-
 
 pub returns : goal.returns
 unfolding line_into

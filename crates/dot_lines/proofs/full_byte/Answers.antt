@@ -3,11 +3,10 @@ use Prim.Native.Nat.{◌+◌, ◌*◌}
 use native.Mathlib.Omega.{arith}
 use mathlib.Core.Path.{◌∙◌}
 use Rattle.dot_lines.proofs.Bytes.{byte_of_line, sample_inside}
-use borrow.Author.Rules.{rules}
 use Rattle.dot_lines.proofs.full_byte.Goals as goal
 
 pub returns : goal.returns
-returns c =
+returns c y even_are odd_are =
     let a = c.args in
     let w = a.samples.now in
     let j = a.j in

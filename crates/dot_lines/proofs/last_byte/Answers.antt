@@ -4,11 +4,10 @@ use native.Mathlib.Omega.{arith}
 use mathlib.Core.Path.{◌∙◌, ap}
 use Rattle.dot_lines.specs.Private.{sample_at}
 use Rattle.dot_lines.proofs.Bytes.{byte_of_line}
-use borrow.Author.Rules.{rules}
 use Rattle.dot_lines.proofs.last_byte.Goals as goal
 
 pub returns : goal.returns
-returns c =
+returns c y even_are odd_are =
     let a = c.args in
     let w = a.samples.now in
     let j = a.j in

@@ -3,7 +3,6 @@ use mathlib.Core.Path.{refl, sym, ap}
 use mathlib.Core.Bool.{Bool, cond}
 use lib.ListN.{length, get_or}
 use borrow.Author.Tests.{le-ltb}
-use borrow.Author.Rules.{rules}
 use Rattle.dot_lines.proofs.Bytes.{sample_inside}
 use Rattle.dot_lines.proofs.sample_at.Goals as goal
 

@@ -1,10 +1,8 @@
 -- `dots::tone` meets its contract: the code's table is the one of which the rule is proved, entry for entry.
 use mathlib.Core.Path.{◌∙◌, sym, ap}
-use borrow.Author.Rules.{rules}
 use Rattle.dots.specs.Tone as definition
 use Rattle.dots.proofs.Curve.{table, entry_is}
 use Rattle.dots.proofs.tone.Goals as goal
-
 
 pub returns : goal.returns
 unfolding table

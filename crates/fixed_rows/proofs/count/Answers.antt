@@ -1,6 +1,5 @@
 -- `count` meets its contract: each test decides one of its refusals.
 use mathlib.Core.Path.{◌∙◌}
-use borrow.Author.Rules.{rules}
 use borrow.Author.Tests.{le-leb, lt-leb}
 use Rattle.fixed_rows.proofs.count.Goals as goal
 

@@ -1,9 +1,9 @@
 -- `pass` meets its contract. The invariant: `at` stands in front of bytes, and what is to be found from the first place on is what is
 -- to be found from `at` on with `left` rows still to pass. Each turn passes one row (`passes_one`), so that `left` falls.
-use Prim.Native.Nat.{ℕ, ◌+◌, ◌-◌, ◌<◌}
+use Prim.Native.Nat.{ℕ, ◌+◌, ◌-◌}
 use native.Mathlib.Omega.{arith}
-use mathlib.Core.Path.{◌≡◌, refl, ◌∙◌, sym, ap}
-use lib.ListN.{length, drop}
+use mathlib.Core.Path.{refl, ◌∙◌, sym, ap}
+use lib.ListN.{drop}
 use Rattle.fixed_rows.specs.Read.{passing}
 use Rattle.fixed_rows.proofs.Passing.{arrives, passes_one, past_the_end}
 use Rattle.fixed_rows.proofs.pass.Goals as goal

@@ -1,11 +1,7 @@
 -- `read_start` meets its contract: by the case of the check.
 use mathlib.Core.Path.{◌∙◌, sym, ap}
-use borrow.Author.Rules.{rules}
 use Rattle.answer.specs.Counted.{counted}
 use Rattle.fixed_rows.proofs.read_start.Goals as goal
-
-
-
 
 pub returns-in-Is : goal.returns-in-Is
 returns-in-Is c =

@@ -1,10 +1,8 @@
 -- `row_numbered` meets its contract: by the case of the check, then by the comparison of the number with the count.
 use mathlib.Core.Path.{◌∙◌, sym, ap}
-use borrow.Author.Rules.{rules}
 use borrow.Author.Tests.{lt-ltb, le-ltb}
 use Rattle.answer.specs.Counted.{counted}
 use Rattle.fixed_rows.proofs.row_numbered.Goals as goal
-
 
 pub returns-then-k-rows : goal.returns-then-k-rows
 returns-then-k-rows c =
@@ -12,7 +10,6 @@ returns-then-k-rows c =
       sym c.count.ensures ∙ ap counted c.in-Is.is,
       lt-ltb _ _ c.if-k-rows.true,
     )
-
 
 pub returns-else-k-rows : goal.returns-else-k-rows
 returns-else-k-rows c =

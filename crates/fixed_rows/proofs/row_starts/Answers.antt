@@ -1,6 +1,5 @@
 -- `row_starts` meets its contract: each test decides one part of `starts`.
 use mathlib.Core.Path.{sym}
-use borrow.Author.Rules.{rules}
 use Rattle.fixed_rows.proofs.Dividing.{in_front, behind, by_whole_rows, by_no_bytes}
 use Rattle.fixed_rows.proofs.row_starts.Goals as goal
 
@@ -12,7 +11,6 @@ returns-then-bytes-from c = sym (behind _ _ _ _ c.if-from-first.false c.if-bytes
 
 pub returns-then-step-eq0 : goal.returns-then-step-eq0
 returns-then-step-eq0 c = sym (by_no_bytes _ _ _ _ c.if-from-first.false c.if-bytes-from.false c.if-step-eq0.true)
-
 
 pub returns : goal.returns
 returns c = sym (by_whole_rows _ _ _ _ c.if-from-first.false c.if-bytes-from.false)

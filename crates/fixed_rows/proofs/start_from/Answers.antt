@@ -1,9 +1,7 @@
 -- `start_from` meets its contract: by the case of the check, then by whether a row starts there.
 use mathlib.Core.Path.{◌∙◌, sym, ap}
-use borrow.Author.Rules.{rules}
 use Rattle.answer.specs.Counted.{counted}
 use Rattle.fixed_rows.proofs.start_from.Goals as goal
-
 
 pub returns-then-row_starts : goal.returns-then-row_starts
 returns-then-row_starts c =
@@ -11,7 +9,6 @@ returns-then-row_starts c =
       sym c.count.ensures ∙ ap counted c.in-Is.is,
       sym c.row_starts.ensures ∙ c.if-row_starts.true,
     )
-
 
 pub returns-else-row_starts : goal.returns-else-row_starts
 returns-else-row_starts c =

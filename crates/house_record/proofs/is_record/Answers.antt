@@ -5,7 +5,6 @@ use mathlib.Core.Path.{◌≡◌, ◌∙◌, sym, ap}
 use lib.Dec.{eqb}
 use lib.ListN.{length}
 use Rattle.house_record.proofs.Reading.{too_few_bytes, wrong_length, wrong_kind, whole_entries_decide}
-use borrow.Author.Rules.{rules}
 use Rattle.house_record.proofs.is_record.Goals as goal
 
 pub returns-then-bytes-lt-FRONT : goal.returns-then-bytes-lt-FRONT
@@ -26,7 +25,7 @@ returns-then-follows-bytes c =
 pub returns-then-found-kind : goal.returns-then-found-kind
 returns-then-found-kind c =
     let a = c.args in
-    sym (wrong_kind a.kind (6 + a.between) a.bytes.now c.two_at-found.ensures c.if-found-kind.true)
+    sym (wrong_kind a.kind (6 + a.between) a.bytes.now c.two_at-found.ensures (λ e. c.if-found-kind.true (cc)))
 
 pub returns : goal.returns
 returns c =

@@ -5,8 +5,6 @@ use mathlib.Core.List.{◌++◌}
 use lib.ListN.{length, drop}
 use Prim.Native.Nat.{ℕ, ◌+◌, ◌-◌, ◌/◌}
 use mathlib.Core.Bool.{true}
-use borrow.Author.Tests.{not-true, not-false}
-use borrow.Author.Rules.{rules}
 use Rattle.answer.proofs.Writers.{refused_writes_nothing, written_to_the_front}
 use Rattle.house_record.specs.Record.{entries_of, is_kept}
 use Rattle.house_record.proofs.Entries.{length_entries}
@@ -47,7 +45,6 @@ pub take_entries-requires : goal.take_entries-requires
 take_entries-requires c =
     let record_says = says (goal.at.take_entries-requires c).Else-not-is_record in
     omega (arith, record_says.long, record_says.whole)
-
 
 pub returns : goal.returns
 returns c =

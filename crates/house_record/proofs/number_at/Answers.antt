@@ -2,7 +2,6 @@
 use native.Mathlib.Omega.{arith}
 use mathlib.Core.Path.{◌∙◌, sym}
 use Rattle.house_record.proofs.Reading.{not_all_there, all_there}
-use borrow.Author.Rules.{rules}
 use Rattle.house_record.proofs.number_at.Goals as goal
 
 pub returns-then-bytes-lt4 : goal.returns-then-bytes-lt4

@@ -1,13 +1,12 @@
 -- `house_record::take_entries` meets its contract. The measure is how many entries are left; the invariant is `Putting`.
-use Prim.Native.Nat.{ℕ, ◌-◌}
+use Prim.Native.Nat.{ℕ}
 use native.Mathlib.Nat.{le_of_eq}
 use native.Mathlib.Omega.{arith}
 use mathlib.Core.Path.{◌≡◌, ◌∙◌, sym, ap}
 use mathlib.Core.List.{List, ◌++◌}
 use lib.ListN.{length, drop}
 use lib.Seq.{take_all}
-use borrow.Author.Rules.{rules}
-use Rattle.answer.proofs.Writers.{Putting, nothing_put, one_put, same_long, all_put}
+use Rattle.answer.proofs.Writers.{nothing_put, one_put, same_long, all_put}
 use Rattle.house_record.specs.Record.{entries_of}
 use Rattle.house_record.proofs.Entries.{length_entries, entry_place}
 use Rattle.house_record.proofs.take_entries.Goals as goal
@@ -34,7 +33,6 @@ loop-i-preserved c =
     let xs = entries_of a.count (drop a.first a.bytes.now) in
     one_put xs a.list.now a.count c.loop-i.list i c.loop-i.invariant (le_of_eq (sym (length_entries a.count (drop a.first a.bytes.now)))) c.requires.1 c.four_at.result c.loop-i-test.true
     (c.four_at.ensures ∙ sym (entry_place a.first a.count i a.bytes.now c.loop-i-test.true))
-
 
 pub returns : goal.returns
 returns c =

@@ -2,7 +2,6 @@
 use mathlib.Core.Path.{◌∙◌, sym, ap}
 use Rattle.little.specs.LittleEndian.{le_number}
 use Rattle.little.proofs.LittleEndian.{two_bytes}
-use borrow.Author.Rules.{rules}
 use Rattle.house_record.proofs.two_at.Goals as goal
 
 pub returns : goal.returns

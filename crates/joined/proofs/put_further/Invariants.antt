@@ -1,13 +1,8 @@
 -- `joined::put_further` meets its contract. The measure is what is left of the entries; the invariant is `Putting`, and the entry that
 -- the walk came to is `found`.
-use Prim.Native.Nat.{ℕ, ◌+◌, ◌-◌}
-use native.Mathlib.Omega.{arith}
-use mathlib.Core.Path.{◌≡◌, ◌∙◌, ap}
-use lib.ListN.{length}
-use borrow.Author.Rules.{rules}
+use Prim.Native.Nat.{◌-◌}
 use Rattle.joined.specs.Private.{further}
-use Rattle.answer.proofs.Writers.{Putting, nothing_put, one_put, same_long, all_put}
-use Rattle.joined.proofs.Writing.{Further, further_entry}
+use Rattle.answer.proofs.Writers.{Putting}
 use Rattle.joined.proofs.put_further.Given as goal
 
 abbrev pub invariant-loop-i : goal.invariant-loop-i

@@ -5,7 +5,6 @@ use mathlib.Core.Path.{◌∙◌, refl, ap}
 use Prim.Native.Nat.{ℕ, ◌+◌, ◌*◌}
 use mathlib.Core.List.{List}
 use lib.ListN.{length}
-use borrow.Author.Rules.{rules}
 use Rattle.answer.proofs.Writers.{refused_writes_nothing, written_to_the_front}
 use Rattle.house_record.specs.Record.{entry_bytes}
 use Rattle.kept.specs.Private.{put_at}
@@ -23,7 +22,6 @@ returns-then-out-size c =
     let a = c.args in
     let old = a.out.now in
     refused_writes_nothing old (too_small a.list.now (length old) c.if-count-gt1073741823.false (omega (arith, c.if-out-size.true)))
-
 
 pub returns : goal.returns
 returns c =

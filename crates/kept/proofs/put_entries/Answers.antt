@@ -1,9 +1,9 @@
 -- `kept::put_entries` meets its contract. The loop's invariant: the bytes of the first `i` entries stand from place `first`
 -- on, and all else is as it was. The measure is how many entries are left; `one_entry_put` is a turn.
-use Prim.Native.Nat.{ℕ, ◌+◌, ◌*◌, ◌≤◌, ◌-◌}
-use mathlib.Core.Path.{◌≡◌, ◌∙◌, sym, ap}
+use Prim.Native.Nat.{ℕ, ◌+◌, ◌*◌}
+use mathlib.Core.Path.{◌∙◌, sym, ap}
 use mathlib.Core.List.{List}
-use lib.ListN.{length, take, get_or}
+use lib.ListN.{get_or}
 use lib.Seq.{take_all}
 use borrow.Author.Rules.{rules}
 use Rattle.little.specs.LittleEndian.{le}
@@ -23,12 +23,11 @@ loop-i-preserved c =
     let list = c.args.list.now in
     let at = c.args.first in (
       search rules,
-      c.put_four.auto.1.0 ∙ c.loop-i.invariant.1,
+      c.put_four.auto.out ∙ c.loop-i.invariant.1,
       c.put_four.ensures
           ∙ ap (λ (s : List ℕ). put_at s (at + 4 * c.loop-i.i) (le 4 (get_or list c.loop-i.i 0))) c.loop-i.invariant.2
           ∙ one_entry_put c.args.out.now list at c.loop-i.i c.loop-i-test.true c.requires,
     )
-
 
 pub returns : goal.returns
 returns c =

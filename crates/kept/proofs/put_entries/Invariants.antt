@@ -1,16 +1,10 @@
 -- `kept::put_entries` meets its contract. The loop's invariant: the bytes of the first `i` entries stand from place `first`
 -- on, and all else is as it was. The measure is how many entries are left; `one_entry_put` is a turn.
-use Prim.Native.Nat.{ℕ, ◌+◌, ◌*◌, ◌≤◌, ◌-◌}
-use mathlib.Core.Path.{◌≡◌, ◌∙◌, sym, ap}
-use mathlib.Core.List.{List}
-use lib.ListN.{length, take, get_or}
-use lib.Seq.{take_all}
-use borrow.Author.Rules.{rules}
-use Rattle.little.specs.LittleEndian.{le}
+use Prim.Native.Nat.{◌≤◌, ◌-◌}
+use mathlib.Core.Path.{◌≡◌}
+use lib.ListN.{length, take}
 use Rattle.house_record.specs.Record.{entry_bytes}
 use Rattle.kept.specs.Private.{put_at}
-use Rattle.kept.proofs.Putting.{put_nothing}
-use Rattle.kept.proofs.Entries.{one_entry_put}
 use Rattle.kept.proofs.put_entries.Given as goal
 
 abbrev pub invariant-loop-i : goal.invariant-loop-i

@@ -6,9 +6,7 @@ use mathlib.Core.List.{List, ◌++◌}
 use Rattle.little.specs.LittleEndian.{le}
 use Rattle.kept.specs.Private.{put_at}
 use Rattle.kept.proofs.Putting.{put_after_put}
-use borrow.Author.Rules.{rules}
 use Rattle.kept.proofs.put_four.Goals as goal
-
 
 pub returns : goal.returns
 returns c =

@@ -4,12 +4,10 @@ use native.Mathlib.Numerals.{add-one}
 use lib.ListN.{length-set}
 use lib.Seq.{sets-eq}
 use Rattle.little.specs.LittleEndian.{le}
-use borrow.Author.Rules.{rules}
 use Rattle.kept.proofs.put_two.Goals as goal
 
 pub bounds-out-at-2 : goal.bounds-out-at-2
 bounds-out-at-2 c = simp length-set (omega arith)
-
 
 pub returns : goal.returns
 returns c =

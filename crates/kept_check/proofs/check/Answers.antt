@@ -15,10 +15,10 @@ use Rattle.kept_check.specs.Private.{rows_borne_out}
 use Rattle.kept_check.proofs.Borne.{borne, check_by_rows}
 use borrow.Author.Rules.{rules}
 use Rattle.kept_check.proofs.check.Goals as goal
-use Rattle.kept_check.proofs.check.Goals.{After-number_at-told, In-Is-2}
+use Rattle.kept_check.proofs.check.Goals.{After-number_at-told, In-Is}
 
 -- the rows of a file that bears the list out
-are : (c : In-Is-2) → rows_borne_out c.args.versions 2 10 c.args.file.now c.args.kept.now ≡ answer c.in-Is.rows
+are : (c : In-Is) → rows_borne_out c.args.versions 2 10 c.args.file.now c.args.kept.now ≡ answer c.in-Is.rows
 are c = sym c.rows_borne_out.ensures ∙ ap counted c.in-Is.is
 
 -- the check's answer, once the counts are compared
@@ -29,11 +29,11 @@ judged c t e =
     let f = a.file.now in
     let s = a.kept.now in
     let n = c.in-Is.rows in
-    let told = c.number_at-told.ensures ∙ rows_are_there s (borne a.versions 2 10 f s n (are c.In-Is-2)).is_record in
+    let told = c.number_at-told.ensures ∙ rows_are_there s (borne a.versions 2 10 f s n (are c.In-Is)).is_record in
     ap (λ (b : Bool). need b 11 (answer tt)) (sym e ∙ ap (λ (m : ℕ). eqb m n) told)
     ∙ sym
     (check_by_rows a.versions f s
-    ∙ after_answer (rows_borne_out a.versions 2 10 f s) (λ m. need (eqb (le_number (bytes_at s 6 4)) m) 11 (answer tt)) n (are c.In-Is-2))
+    ∙ after_answer (rows_borne_out a.versions 2 10 f s) (λ m. need (eqb (le_number (bytes_at s 6 4)) m) 11 (answer tt)) n (are c.In-Is))
 
 
 

@@ -17,9 +17,9 @@ use Rattle.house_record.proofs.Reading.{Accepted, accepted}
 use Rattle.kept_check.proofs.Borne.{not_accepted, no_record, compared}
 use borrow.Author.Rules.{rules}
 use Rattle.kept_check.proofs.rows_borne_out.Goals as goal
-use Rattle.kept_check.proofs.rows_borne_out.Goals.{Else-not-is_record, In-Is-2}
+use Rattle.kept_check.proofs.rows_borne_out.Goals.{Else-not-is_record, In-Is}
 
-is : (c : In-Is-2) → check_labelled c.args.versions c.args.file.now ≡ answer c.in-Is.rows
+is : (c : In-Is) → check_labelled c.args.versions c.args.file.now ≡ answer c.in-Is.rows
 is c = sym c.check.ensures ∙ ap counted c.in-Is.is
 
 is_a_record : (c : Else-not-is_record) → is_kept c.args.kind (6 + c.args.between) c.args.kept.now ≡ true
@@ -37,7 +37,7 @@ pub returns-then-not-is_record : goal.returns-then-not-is_record
 returns-then-not-is_record c =
     let a = c.args in
     sym
-    (no_record a.versions a.kind (6 + a.between) a.file.now a.kept.now _ (is (goal.at.returns-then-not-is_record c).In-Is-2)
+    (no_record a.versions a.kind (6 + a.between) a.file.now a.kept.now _ (is (goal.at.returns-then-not-is_record c).In-Is)
     (sym c.is_record.ensures ∙ c.if-not-is_record.true))
 
 pub overflow_add-first : goal.overflow_add-first
@@ -54,18 +54,18 @@ returns-then-count-groups c =
     let xs = entries_of count (drop first a.kept.now) in
     let index = the_index a.versions a.file.now in
     sym
-    (compared a.versions a.kind first a.file.now a.kept.now _ (is (goal.at.returns-then-count-groups c).In-Is-2) (is_a_record (goal.at.returns-then-count-groups c).Else-not-is_record) _
+    (compared a.versions a.kind first a.file.now a.kept.now _ (is (goal.at.returns-then-count-groups c).In-Is) (is_a_record (goal.at.returns-then-count-groups c).Else-not-is_record) _
     (lengths_differ xs index
     (λ e.
     c.if-count-groups.true
-    (sym (length_entries count (drop first a.kept.now)) ∙ e ∙ entries_counted a.versions a.file.now _ (is (goal.at.returns-then-count-groups c).In-Is-2)
+    (sym (length_entries count (drop first a.kept.now)) ∙ e ∙ entries_counted a.versions a.file.now _ (is (goal.at.returns-then-count-groups c).In-Is)
     ∙ sym c.groups.ensures))))
 
 pub entries_agree-requires : goal.entries_agree-requires
 entries_agree-requires c =
     let a = c.args in (
       omega (arith, (says (goal.at.entries_agree-requires c).Else-not-is_record).long, (says (goal.at.entries_agree-requires c).Else-not-is_record).whole),
-      c.if-count-groups.false ∙ c.groups.ensures ∙ sym (entries_counted a.versions a.file.now _ (is (goal.at.entries_agree-requires c).In-Is-2)),
+      c.if-count-groups.false ∙ c.groups.ensures ∙ sym (entries_counted a.versions a.file.now _ (is (goal.at.entries_agree-requires c).In-Is)),
     )
 
 pub returns-in-Refused : goal.returns-in-Refused
@@ -79,12 +79,12 @@ pub returns-then-entries_agree : goal.returns-then-entries_agree
 returns-then-entries_agree c =
     let a = c.args in
     sym
-    (compared a.versions a.kind (6 + a.between) a.file.now a.kept.now _ (is (goal.at.returns-then-entries_agree c).In-Is-2) (is_a_record (goal.at.returns-then-entries_agree c).Else-not-is_record) _
+    (compared a.versions a.kind (6 + a.between) a.file.now a.kept.now _ (is (goal.at.returns-then-entries_agree c).In-Is) (is_a_record (goal.at.returns-then-entries_agree c).Else-not-is_record) _
     (sym c.entries_agree.ensures ∙ c.if-entries_agree.true))
 
 pub returns-else-entries_agree : goal.returns-else-entries_agree
 returns-else-entries_agree c =
     let a = c.args in
     sym
-    (compared a.versions a.kind (6 + a.between) a.file.now a.kept.now _ (is (goal.at.returns-else-entries_agree c).In-Is-2) (is_a_record (goal.at.returns-else-entries_agree c).Else-not-is_record) _
+    (compared a.versions a.kind (6 + a.between) a.file.now a.kept.now _ (is (goal.at.returns-else-entries_agree c).In-Is) (is_a_record (goal.at.returns-else-entries_agree c).Else-not-is_record) _
     (sym c.entries_agree.ensures ∙ c.if-entries_agree.false))

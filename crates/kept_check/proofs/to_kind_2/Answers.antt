@@ -18,13 +18,13 @@ use Rattle.kept_check.specs.Private.{rows_borne_out}
 use Rattle.kept_check.proofs.Borne.{Borne, borne, there_by_rows, way_there}
 use borrow.Author.Rules.{rules}
 use Rattle.kept_check.proofs.to_kind_2.Goals as goal
-use Rattle.kept_check.proofs.to_kind_2.Goals.{After-number_at-follows, In-Is-2}
+use Rattle.kept_check.proofs.to_kind_2.Goals.{After-number_at-follows, In-Is}
 
 -- the rows of a file that bears the list out
-are : (c : In-Is-2) → rows_borne_out c.args.versions 1 6 c.args.file.now c.args.kept.now ≡ answer c.in-Is.rows
+are : (c : In-Is) → rows_borne_out c.args.versions 1 6 c.args.file.now c.args.kept.now ≡ answer c.in-Is.rows
 are c = sym c.rows_borne_out.ensures ∙ ap counted c.in-Is.is
 
-says : (c : In-Is-2) → Borne c.args.versions 1 6 c.args.file.now c.args.kept.now c.in-Is.rows
+says : (c : In-Is) → Borne c.args.versions 1 6 c.args.file.now c.args.kept.now c.in-Is.rows
 says c =
     let a = c.args in
     borne a.versions 1 6 a.file.now a.kept.now _ (are c)
@@ -33,23 +33,23 @@ says c =
 follows : (c : After-number_at-follows) → c.number_at-follows.result + 4 ≡ length c.args.kept.now
 follows c =
     let s = c.args.kept.now in
-    let a = accepted 1 6 s (says c.In-Is-2).is_record in
+    let a = accepted 1 6 s (says c.In-Is).is_record in
     omega (arith, a.long, a.size, c.number_at-follows.ensures ∙ all_there s 0 (omega (arith, a.long)))
 
 
 
 
 pub overflow_add-follows : goal.overflow_add-follows
-overflow_add-follows c = let b = says (goal.at.overflow_add-follows c).In-Is-2 in omega (arith, follows c, b.few, b.size)
+overflow_add-follows c = let b = says (goal.at.overflow_add-follows c).In-Is in omega (arith, follows c, b.few, b.size)
 
 pub overflow_cast-rows : goal.overflow_cast-rows
-overflow_cast-rows c = omega (arith, (says (goal.at.overflow_cast-rows c).In-Is-2).few)
+overflow_cast-rows c = omega (arith, (says (goal.at.overflow_cast-rows c).In-Is).few)
 
 pub slice_bounds-put-count : goal.slice_bounds-put-count
-slice_bounds-put-count c = omega (arith, (says (goal.at.slice_bounds-put-count c).In-Is-2).size)
+slice_bounds-put-count c = omega (arith, (says (goal.at.slice_bounds-put-count c).In-Is).size)
 
 pub slice_bounds-put-start : goal.slice_bounds-put-start
-slice_bounds-put-start c = omega (arith, (says (goal.at.slice_bounds-put-start c).In-Is-2).size)
+slice_bounds-put-start c = omega (arith, (says (goal.at.slice_bounds-put-start c).In-Is).size)
 
 pub returns-in-Refused : goal.returns-in-Refused
 returns-in-Refused c =
@@ -69,5 +69,5 @@ returns-in-Is c =
     let s = a.kept.now in
     let room = length a.out.now in
     let bytes = each_below 256 s (λ i h. omega (arith, c.shared_slice_known-2-1.given i)) in
-    let there = way_there a.versions a.file.now s room _ (are (goal.at.returns-in-Is c).In-Is-2) bytes (c.number_at-follows.result + 4) (follows (goal.at.returns-in-Is c).After-number_at-follows) in
+    let there = way_there a.versions a.file.now s room _ (are (goal.at.returns-in-Is c).In-Is) bytes (c.number_at-follows.result + 4) (follows (goal.at.returns-in-Is c).After-number_at-follows) in
     rw (there ∙ ap (in_room room) (ap₂ ◌++◌ (sym c.head-front.ensures) (sym (all_that_is_left s 6)))) c.put.ensures

@@ -6,7 +6,6 @@ use mathlib.Core.List.{List, [], ◌∷◌}
 use lib.ListN.{length, get_or, drop, drop_of_length-le}
 use lib.Seq.{drop-cons}
 use Rattle.label.specs.Length.{binary}
-use borrow.Author.Rules.{rules}
 use Rattle.label.proofs.binary_field.Goals as goal
 
 -- the eight bytes of the length field

@@ -4,9 +4,7 @@ use mathlib.Core.Path.{◌∙◌, sym, ap}
 use Rattle.answer.specs.Outcome.{answer}
 use Rattle.label.specs.declared.Version.TheVariants.{Two}
 use Rattle.label.specs.Label.{labelled}
-use borrow.Author.Tests.{not-true, not-false}
 use Rattle.label.proofs.Reading.{bad_head, good_head}
-use borrow.Author.Rules.{rules}
 use Rattle.label.proofs.binary_label.Goals as goal
 
 pub returns-then-not-head_is_good : goal.returns-then-not-head_is_good

@@ -1,17 +1,11 @@
 -- `label::digits_after` meets its contract. The invariant: the digits' reading is the reading of what is left from place
 -- 12 + i on with n so far, and n has at most i digits.
 use Prim.Native.Nat.{ℕ, ◌+◌, ◌-◌, ◌≤◌, ◌<◌, ◌^◌}
-use native.Mathlib.Nat.{one-le-pow}
-use native.Mathlib.Omega.{arith}
-use mathlib.Core.Path.{◌≡◌, ◌∙◌, sym, ap}
+use mathlib.Core.Path.{◌≡◌}
 use mathlib.Core.List.{List}
-use lib.ListN.{drop, drop_of_length-le, length-drop}
-use borrow.Author.Rules.{rules}
+use lib.ListN.{drop}
 use Rattle.text.specs.Digits.{decimal}
-use Rattle.text.proofs.Digits.{one_digit_more}
-use Rattle.label.specs.Length.{number_in, after}
-use Rattle.label.proofs.Spaces.{some_bytes}
-use Rattle.label.proofs.LengthField.{eight_digits_at_most, next_digit, low_byte, high_byte}
+use Rattle.label.specs.Length.{number_in}
 use Rattle.label.proofs.digits_after.Given as goal
 
 pub record Inv (b : List ℕ) (spaces n i : ℕ) : Type 0 where

@@ -9,7 +9,6 @@ use Rattle.label.specs.declared.Version.TheVariants.{One}
 use Rattle.label.specs.Length.{spaces_in, number_in, after, length_of}
 use Rattle.label.specs.Private.{field_read}
 use Rattle.label.proofs.Spaces.{digits_alone}
-use borrow.Author.Rules.{rules}
 use Rattle.label.proofs.digits_field.Goals as goal
 
 -- the rule, with so many spaces
@@ -17,9 +16,6 @@ with_spaces : (b : List ℕ) (k : ℕ) → k ≡ spaces_in (drop 12 b) → after
 with_spaces b k e =
     ap (λ (xs : List ℕ). after k (number_in xs)) (sym (drop-drop k 12 b))
     ∙ ap (λ (j : ℕ). after j (number_in (drop j (drop 12 b)))) e
-
-
-
 
 pub returns-in-Is : goal.returns-in-Is
 returns-in-Is c =

@@ -4,16 +4,11 @@ use Rattle.answer.specs.Outcome.{answer}
 use Rattle.label.specs.declared.Version.TheVariants.{One}
 use Rattle.label.specs.Private.{field_read}
 use Rattle.label.specs.Label.{with_length}
-use borrow.Author.Tests.{not-true, not-false}
 use Rattle.label.proofs.Reading.{bad_head, good_head}
-use borrow.Author.Rules.{rules}
 use Rattle.label.proofs.digits_label.Goals as goal
 
 pub returns-then-not-head_is_good : goal.returns-then-not-head_is_good
 returns-then-not-head_is_good c = sym (bad_head One c.args.b.now (sym c.head_is_good.ensures ∙ c.if-not-head_is_good.true))
-
-
-
 
 pub returns-in-Is : goal.returns-in-Is
 returns-in-Is c =

@@ -2,7 +2,6 @@
 use mathlib.Core.Bool.{◌&&◌}
 use mathlib.Core.Path.{◌∙◌, ap, ap₂}
 use Rattle.label.specs.Head.{is_agency, is_form, is_description}
-use borrow.Author.Rules.{rules}
 use Rattle.label.proofs.head_is_good.Goals as goal
 
 pub returns : goal.returns

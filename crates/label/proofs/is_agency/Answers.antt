@@ -9,7 +9,6 @@ use Rattle.answer.proofs.Tests.{both_hold, hold_together}
 use Rattle.label.specs.declared.Four.{Four}
 use Rattle.label.specs.Head.{spells}
 use Rattle.label.specs.Private.{OneNumber}
-use borrow.Author.Rules.{rules}
 use Rattle.label.proofs.is_agency.Goals as goal
 
 module _ (f : Four) (n : ℕ) (one : OneNumber f n) (a b c d : ℕ) (byte_a : a < 256) (byte_b : b < 256) (byte_c : c < 256) (byte_d : d < 256) where

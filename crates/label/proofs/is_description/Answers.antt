@@ -1,7 +1,6 @@
 -- `label::is_description` meets its contract: each of the four tests is its definition.
 use mathlib.Core.Bool.{◌&&◌}
 use mathlib.Core.Path.{ap₂}
-use borrow.Author.Rules.{rules}
 use Rattle.label.proofs.is_description.Goals as goal
 
 pub returns : goal.returns

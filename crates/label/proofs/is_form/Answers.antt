@@ -1,5 +1,4 @@
 -- `label::is_form` meets its contract: byte 4 is the version's.
-use borrow.Author.Rules.{rules}
 use Rattle.label.proofs.is_form.Goals as goal
 
 pub returns : goal.returns

@@ -1,7 +1,6 @@
 -- `label::is_head` meets its contract: by the count of bytes, then by their test.
 use mathlib.Core.Path.{◌∙◌, sym}
 use borrow.Author.Tests.{eq-eqb, ne_eqb}
-use borrow.Author.Rules.{rules}
 use Rattle.label.proofs.is_head.Goals as goal
 
 pub returns-then-head-ne-HEAD : goal.returns-then-head-ne-HEAD

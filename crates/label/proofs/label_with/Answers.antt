@@ -6,7 +6,6 @@ use lib.ListN.{get_or}
 use Rattle.label.specs.declared.Four.{Four}
 use Rattle.label.specs.declared.Version.{Version}
 use Rattle.label.specs.declared.Label.{Label}
-use borrow.Author.Rules.{rules}
 use Rattle.label.proofs.label_with.Goals as goal
 
 abbrev with : Version → List ℕ → ℕ → ℕ → Four → Four → Label

@@ -10,7 +10,6 @@ use Rattle.label.specs.declared.Versions.{Versions}
 use Rattle.label.specs.Version.{version_for}
 use Rattle.label.specs.Label.{label_as, read_label}
 use Rattle.label.proofs.Reading.{short_is_refused, twenty_bytes_are_read}
-use borrow.Author.Rules.{rules}
 use Rattle.label.proofs.read_label.Goals as goal
 
 -- the bytes are read as the version that byte 4 gives
@@ -26,13 +25,11 @@ returns-then-s-lt-LABEL c = sym (short_is_refused _ _ c.if-s-lt-LABEL.true)
 pub bounds-s-4 : goal.bounds-s-4
 bounds-s-4 c = omega (arith, c.if-s-lt-LABEL.false)
 
-
 pub slice_bounds-digits_label-end : goal.slice_bounds-digits_label-end
 slice_bounds-digits_label-end c = sym (length-take-le 20 c.args.s.now c.if-s-lt-LABEL.false)
 
 pub digits_label-requires : goal.digits_label-requires
 digits_label-requires c = length-take-le 20 c.args.s.now c.if-s-lt-LABEL.false
-
 
 pub slice_bounds-binary_label-end : goal.slice_bounds-binary_label-end
 slice_bounds-binary_label-end c = sym (length-take-le 20 c.args.s.now c.if-s-lt-LABEL.false)

@@ -1,12 +1,10 @@
 -- `label::spaces_in` meets its contract. The invariant: the bytes passed are spaces, and those of the rest come on top.
-use Prim.Native.Nat.{ℕ, ◌+◌, ◌-◌, ◌≤◌}
+use Prim.Native.Nat.{◌+◌}
 use native.Mathlib.Omega.{arith}
-use mathlib.Core.Path.{◌≡◌, refl, ◌∙◌, sym, ap}
-use mathlib.Core.List.{List}
-use lib.ListN.{drop, drop_of_length-le}
+use mathlib.Core.Path.{refl, ap}
+use lib.ListN.{drop_of_length-le}
 use Rattle.label.specs.Length.{spaces_in}
 use Rattle.label.proofs.LengthField.{next_space, no_space}
-use Rattle.label.proofs.spaces_in.Invariants.{Inv}
 use Rattle.label.proofs.spaces_in.Goals as goal
 
 pub loop-spaces-init : goal.loop-spaces-init

@@ -1,11 +1,9 @@
 -- `label::spaces_in` meets its contract. The invariant: the bytes passed are spaces, and those of the rest come on top.
 use Prim.Native.Nat.{ℕ, ◌+◌, ◌-◌, ◌≤◌}
-use native.Mathlib.Omega.{arith}
-use mathlib.Core.Path.{◌≡◌, refl, ◌∙◌, sym, ap}
+use mathlib.Core.Path.{◌≡◌}
 use mathlib.Core.List.{List}
-use lib.ListN.{drop, drop_of_length-le}
+use lib.ListN.{drop}
 use Rattle.label.specs.Length.{spaces_in}
-use Rattle.label.proofs.LengthField.{next_space, no_space}
 use Rattle.label.proofs.spaces_in.Given as goal
 
 pub record Inv (b : List ℕ) (spaces : ℕ) : Type 0 where

@@ -3,14 +3,10 @@ use mathlib.Core.Path.{◌∙◌, sym, ap}
 use Rattle.label.specs.declared.Versions.{Versions}
 use Rattle.label.specs.Version.{version_for}
 use Rattle.label.proofs.ByteFour.{only_one, says_two, says_not_two}
-use borrow.Author.Rules.{rules}
 use Rattle.label.proofs.version_for.Goals as goal
 
 pub returns-then-byte-ne50 : goal.returns-then-byte-ne50
 returns-then-byte-ne50 c = sym (says_not_two c.args.versions c.args.byte c.if-byte-ne50.true)
-
-
-
 
 pub returns-in-One : goal.returns-in-One
 returns-in-One c =

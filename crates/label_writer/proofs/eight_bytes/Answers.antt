@@ -1,6 +1,5 @@
 -- `label_writer::eight_bytes` meets its contract: each byte is the remainder of the quotients before it.
 use native.Mathlib.Nat.{zero-add}
-use borrow.Author.Rules.{rules}
 use Rattle.label_writer.proofs.eight_bytes.Goals as goal
 
 pub returns : goal.returns

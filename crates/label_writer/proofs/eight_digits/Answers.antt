@@ -1,5 +1,4 @@
 -- `label_writer::eight_digits` meets its contract: each digit is the remainder of the quotients before it.
-use borrow.Author.Rules.{rules}
 use Rattle.label_writer.proofs.eight_digits.Goals as goal
 
 pub returns : goal.returns

@@ -2,11 +2,7 @@
 use mathlib.Core.Path.{◌∙◌, sym, ap}
 use Rattle.label.specs.declared.Version.{Version}
 use Rattle.label_writer.specs.Write.{field_of}
-use borrow.Author.Rules.{rules}
 use Rattle.label_writer.proofs.field_of.Goals as goal
-
-
-
 
 pub returns-in-One : goal.returns-in-One
 returns-in-One c =

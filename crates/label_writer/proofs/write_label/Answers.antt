@@ -6,15 +6,14 @@ use mathlib.Core.Bool.{true}
 use mathlib.Core.List.{List}
 use lib.ListN.{length, length-append}
 use lib.Dec.{eqb}
-use borrow.Author.Tests.{not-true, not-false, eqb-true}
+use borrow.Author.Tests.{eqb-true}
 use Prim.Native.Nat.{ℕ}
 use Rattle.answer.proofs.Tests.{both_hold}
-use Rattle.answer.proofs.Writers.{refused_writes_nothing, written_to_the_front, two_pieces}
+use Rattle.answer.proofs.Writers.{refused_writes_nothing, written_to_the_front, pieces_put}
 use Rattle.label.specs.declared.Version.{Version}
 use Rattle.label.specs.Head.{head_good, is_head}
 use Rattle.label_writer.specs.Write.{field_of}
 use Rattle.label_writer.proofs.Writing.{length_field, no_head, too_long, too_small, written}
-use borrow.Author.Rules.{rules}
 use Rattle.label_writer.proofs.write_label.Goals as goal
 
 -- a head has twelve bytes
@@ -41,19 +40,6 @@ returns-then-out-lt-LABEL c =
     let held = sym c.can_hold.ensures ∙ c.if-not-can_hold.false in
     refused_writes_nothing a.out.now (too_small a.version a.head.now a.length (length a.out.now) good held c.if-out-lt-LABEL.true)
 
-
-
-
-
-
-
-
-
-
-
-
-
-
 pub returns : goal.returns
 returns c =
     let a = c.args in
@@ -61,12 +47,10 @@ returns c =
     let old = a.out.now in
     let good = sym c.is_head.ensures ∙ c.if-not-is_head.false in
     let held = sym c.can_hold.ensures ∙ c.if-not-can_hold.false in
-    let front = c.copy.new.1.0 in
-    let back = c.copy2.new.1.0 in
     let field = c.field_of-field.result in
     let twelve_bytes = twelve a.version head good in
     let writes = written a.version head a.length (length old) good held c.if-out-lt-LABEL.false in
     let is : field ≡ field_of a.version a.length = c.field_of-field.ensures in
     let eight = length_field a.version a.length in
-    rw (two_pieces head field old front back 12 twelve_bytes (omega (arith, ap length is, eight)) c.copy.ensures.1 c.copy2.ensures.1)
+    rw (c.copy_from_slice.ensures.after, c.copy_from_slice-2.ensures.after, pieces_put head field old 12 8 twelve_bytes (ap length is ∙ eight))
     (rw is (written_to_the_front old 20 (length-append head (field_of a.version a.length) ∙ omega (arith, twelve_bytes, eight)) writes))

@@ -3,11 +3,7 @@ use mathlib.Core.Path.{◌∙◌, sym, ap}
 use Rattle.sfdu.specs.Check.{rows_of_file, check_labelled}
 use Rattle.sfdu.specs.Search.{searched}
 use Rattle.labelled.proofs.Seen.{counts_so_many, meets_the_fault}
-use borrow.Author.Rules.{rules}
 use Rattle.labelled.proofs.check.Goals as goal
-
-
-
 
 pub returns-in-Is : goal.returns-in-Is
 unfolding check_labelled

@@ -5,9 +5,7 @@ use Rattle.sfdu.specs.Check.{rows_of_file}
 use Rattle.sfdu.specs.Find.{find_row}
 use Rattle.sfdu.specs.Search.{searched, MarksInside}
 use Rattle.labelled.proofs.Seen.{finds_the_row, finds_no_row, meets_the_fault}
-use borrow.Author.Rules.{rules}
 use Rattle.labelled.proofs.find_row.Goals as goal
-
 
 pub marked_row-requires : goal.marked_row-requires
 marked_row-requires c = subst MarksInside (ap searched c.in-Is.is) c.search_file.ensures.1
@@ -19,7 +17,6 @@ returns-then-k-seen c =
     ap answer c.marked_row.ensures
     ∙ finds_the_row _ (rows_of_file a.versions a.file.now) _
     (ap searched (sym c.in-Is.is) ∙ c.search_file.ensures.0) c.if-k-seen.true
-
 
 pub returns-else-k-seen : goal.returns-else-k-seen
 unfolding find_row

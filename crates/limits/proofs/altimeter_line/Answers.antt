@@ -1,7 +1,6 @@
 -- `limits::altimeter_line` meets its contract: the blocks of the code's table are those of the definitions' table, line for line,
 -- which is compared by computing both.
 use native.Mathlib.Omega.{arith}
-use borrow.Author.Rules.{rules}
 use lib.IntN.{pos}
 use Rattle.limits.specs.AltimeterLimits.{element, altimeter_table}
 use Rattle.limits.proofs.Lines.{line_in_block}

@@ -1,7 +1,6 @@
 -- `limits::burst_line` meets its contract: the blocks of the code's table are those of the definitions' table, line for line,
 -- which is compared by computing both.
 use native.Mathlib.Omega.{arith}
-use borrow.Author.Rules.{rules}
 use Rattle.limits.specs.BurstLimits.{field, burst_table}
 use Rattle.limits.proofs.Lines.{line_in_block}
 use Rattle.limits.proofs.burst_line.Goals as goal

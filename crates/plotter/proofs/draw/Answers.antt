@@ -15,10 +15,10 @@ use Rattle.plotter.specs.Private.{Starts}
 use Rattle.plotter.proofs.Going.{NextRow, next_row, next_refused}
 use Rattle.plotter.proofs.Drawing.{Drawing, nothing_drawn, one_drawn, same_size, next_fits, none_missing, all_drawn, window_inside}
 use Rattle.plotter.proofs.draw.Goals as goal
-use Rattle.plotter.proofs.draw.Goals.{At-loop-y, In-Is-2, In-Refused}
+use Rattle.plotter.proofs.draw.Goals.{At-loop-y, In-Is, In-Refused}
 
 -- what is drawn so far, for the first row that is known to be there
-module _ (c : At-loop-y Inv μ) where
+module _ (c : At-loop-y) where
   so_far : Drawing c.args.kind c.args.file.now c.requires.0.0 c.args.rows c.args.a c.args.c c.args.out.now c.loop-y.out c.loop-y.next c.loop-y.y
   so_far = c.loop-y.invariant c.requires.0.0 c.requires.0.1
 
@@ -27,11 +27,11 @@ module _ (c : At-loop-y Inv μ) where
       let a = c.args in
       same_size a.kind a.file.now c.requires.0.0 a.rows a.a a.c a.out.now c.loop-y.out c.loop-y.next c.loop-y.y so_far c.requires.2
 
-file_small : (c : At-loop-y Inv μ) → length c.args.file.now < 18446744073709551616
+file_small : (c : At-loop-y) → length c.args.file.now < 18446744073709551616
 file_small c = c.well-formed.1.0.0
 
 -- the row that going on came to, whatever the number of the first one, and that the window fits it
-came : (c : In-Is-2 Inv μ) (first : ℕ) → Starts c.args.kind c.args.file.now first c.args.start
+came : (c : In-Is) (first : ℕ) → Starts c.args.kind c.args.file.now first c.args.start
     → NextRow c.args.kind c.args.file.now (first + c.loop-y.y) c.in-Is.row
 came c first s =
     let a = c.args in
@@ -39,7 +39,7 @@ came c first s =
     next_row a.kind a.file.now (first + l.y) l.next (l.invariant first s).going.next c.in-Is.row
     (sym c.row_from.ensures ∙ ap shown c.in-Is.is)
 
-fitted : (c : In-Is-2 Inv μ) → fits c.in-Is.row.part.count c.args.a c.args.c ≡ true
+fitted : (c : In-Is) → fits c.in-Is.row.part.count c.args.a c.args.c ≡ true
 fitted c =
     let a = c.args in
     let p = c.requires in
@@ -48,17 +48,17 @@ fitted c =
     ap (λ (q : Part). fits q.count a.a a.c) (sym r.part)
     ∙ next_fits a.kind a.file.now p.0.0 a.rows a.a a.c a.out.now l.out l.next l.y (so_far c.At-loop-y) (p.1 p.0.0 p.0.1).0 (p.1 p.0.0 p.0.1).1 c.loop-y-test.true r.row r.is_row
 
-buffer_small : (c : At-loop-y Inv μ) → length c.args.out.now < 18446744073709551616
+buffer_small : (c : At-loop-y) → length c.args.out.now < 18446744073709551616
 buffer_small c = c.well-formed.1.1.1.1.1.1.0.0
 
 -- its window lies in the file, and its line in the buffer
-inside : (c : In-Is-2 Inv μ) → c.in-Is.row.part.place + c.args.a + c.args.c ≤ length c.args.file.now
+inside : (c : In-Is) → c.in-Is.row.part.place + c.args.a + c.args.c ≤ length c.args.file.now
 inside c =
     let a = c.args in
     let p = c.requires in
     window_inside a.file.now c.in-Is.row a.a a.c (came c p.0.0 p.0.1).inside (fitted c)
 
-room : (c : In-Is-2 Inv μ) → c.loop-y.y * line_bytes c.args.c + line_bytes c.args.c ≤ length c.args.out.now
+room : (c : In-Is) → c.loop-y.y * line_bytes c.args.c + line_bytes c.args.c ≤ length c.args.out.now
 room c =
     let a = c.args in
     let y = c.loop-y.y in
@@ -67,7 +67,7 @@ room c =
 )
 
 -- no row is missing
-never : (c : In-Refused Inv μ) → ⊥
+never : (c : In-Refused) → ⊥
 never c =
     let a = c.args in
     let p = c.requires in
@@ -82,23 +82,23 @@ loop-y-init c =
 
 
 pub overflow_add-place : goal.overflow_add-place
-overflow_add-place c = omega (arith, inside (goal.at.overflow_add-place c).In-Is-2, file_small (goal.at.overflow_add-place c).At-loop-y)
+overflow_add-place c = omega (arith, inside (goal.at.overflow_add-place c).In-Is, file_small (goal.at.overflow_add-place c).At-loop-y)
 
 
 pub overflow_mul-y : goal.overflow_mul-y
-overflow_mul-y c = omega (arith, room (goal.at.overflow_mul-y c).In-Is-2, ap (λ (w : ℕ). c.loop-y.y * w) c.line_bytes-bytes.ensures, buffer_small (goal.at.overflow_mul-y c).At-loop-y)
+overflow_mul-y c = omega (arith, room (goal.at.overflow_mul-y c).In-Is, ap (λ (w : ℕ). c.loop-y.y * w) c.line_bytes-bytes.ensures, buffer_small (goal.at.overflow_mul-y c).At-loop-y)
 
 
 pub draw_row-requires : goal.draw_row-requires
 draw_row-requires c = (
-  inside (goal.at.draw_row-requires c).In-Is-2,
-  omega (arith, room (goal.at.draw_row-requires c).In-Is-2, ap (λ (w : ℕ). c.loop-y.y * w) c.line_bytes-bytes.ensures, long (goal.at.draw_row-requires c).At-loop-y),
+  inside (goal.at.draw_row-requires c).In-Is,
+  omega (arith, room (goal.at.draw_row-requires c).In-Is, ap (λ (w : ℕ). c.loop-y.y * w) c.line_bytes-bytes.ensures, long (goal.at.draw_row-requires c).At-loop-y),
 
 
 pub overflow_add-next : goal.overflow_add-next
 overflow_add-next c =
     let s = c.requires in
-    omega (arith, (came (goal.at.overflow_add-next c).In-Is-2 s.0.0 s.0.1).inside, file_small (goal.at.overflow_add-next c).At-loop-y)
+    omega (arith, (came (goal.at.overflow_add-next c).In-Is s.0.0 s.0.1).inside, file_small (goal.at.overflow_add-next c).At-loop-y)
 
 
 pub overflow_add-y : goal.overflow_add-y
@@ -114,7 +114,7 @@ loop-y-preserved c =
     let a = c.args in
     let l = c.loop-y in
     let next = c.in-Is.row in
-    one_drawn a.kind a.file.now first a.rows a.a a.c a.out.now l.out l.next l.y (l.invariant first s) c.loop-y-test.true next (came (goal.at.loop-y-preserved c).In-Is-2 first s) (fitted (goal.at.loop-y-preserved c).In-Is-2) _
+    one_drawn a.kind a.file.now first a.rows a.a a.c a.out.now l.out l.next l.y (l.invariant first s) c.loop-y-test.true next (came (goal.at.loop-y-preserved c).In-Is first s) (fitted (goal.at.loop-y-preserved c).In-Is) _
     (c.draw_row.ensures
     ∙ ap (λ (at : ℕ). take at l.out ++ line l.y (bytes_at a.file.now (next.part.place + a.a) a.c) ++ drop (at + line_bytes a.c) l.out) (ap (λ (w : ℕ). l.y * w) c.line_bytes-bytes.ensures))
 

@@ -11,10 +11,10 @@ use Rattle.plotter.specs.Private.{Starts}
 use Rattle.plotter.proofs.Going.{NextRow, next_row, next_refused}
 use Rattle.plotter.proofs.Judging.{Judging, nothing_judged, one_judged, one_refused, all_judged}
 use Rattle.plotter.proofs.judge.Goals as goal
-use Rattle.plotter.proofs.judge.Goals.{In-Is-2}
+use Rattle.plotter.proofs.judge.Goals.{In-Is}
 
 -- the row that going on came to, whatever the number of the first one
-came : (c : In-Is-2 Inv μ) (first : ℕ) → Starts c.args.kind c.args.file.now first c.args.start
+came : (c : In-Is) (first : ℕ) → Starts c.args.kind c.args.file.now first c.args.start
     → NextRow c.args.kind c.args.file.now (first + c.loop-found.found) c.in-Is.row
 came c first s =
     let a = c.args in
@@ -31,7 +31,7 @@ loop-found-init c =
 pub overflow_add-from : goal.overflow_add-from
 overflow_add-from c =
     let s = c.requires in
-    omega (arith, (came (goal.at.overflow_add-from c).In-Is-2 s.0 s.1).inside, c.well-formed.1.1.0.1)
+    omega (arith, (came (goal.at.overflow_add-from c).In-Is s.0 s.1).inside, c.well-formed.1.1.0.1)
 
 pub overflow_add-found : goal.overflow_add-found
 overflow_add-found c = omega (arith, c.loop-found-test.true, c.ranges.rows)
@@ -43,7 +43,7 @@ pub loop-found-preserved : goal.loop-found-preserved
 loop-found-preserved c =
     let a = c.args in
     let l = c.loop-found in
-    one_judged a.kind a.file.now first a.rows a.a a.c l.fit l.from l.found (l.invariant first s) c.loop-found-test.true c.in-Is.row (came (goal.at.loop-found-preserved c).In-Is-2 first s)
+    one_judged a.kind a.file.now first a.rows a.a a.c l.fit l.from l.found (l.invariant first s) c.loop-found-test.true c.in-Is.row (came (goal.at.loop-found-preserved c).In-Is first s)
     c.window_fits-fit.result c.window_fits-fit.ensures
 
 

@@ -13,10 +13,10 @@ use Rattle.plotter.specs.Private.{Starts}
 use Rattle.plotter.proofs.Starting.{starts, no_start, no_rows, accepted_strip, nothing_written, written_as}
 use borrow.Author.Rules.{rules}
 use Rattle.plotter.proofs.strip.Goals as goal
-use Rattle.plotter.proofs.strip.Goals.{In-Is-2}
+use Rattle.plotter.proofs.strip.Goals.{In-Is}
 
 -- going on to the first row
-begun : (c : In-Is-2) → Starts c.args.kind c.args.file.now c.args.first c.in-Is.start
+begun : (c : In-Is) → Starts c.args.kind c.args.file.now c.args.first c.in-Is.start
 begun c =
     let a = c.args in
     starts a.kind a.file.now a.first c.in-Is.start (sym c.start_of.ensures ∙ ap counted c.in-Is.is)
@@ -30,7 +30,7 @@ returns-then-rows-eq0 c =
 
 
 pub strip_from-requires : goal.strip_from-requires
-strip_from-requires c = (c.args.first, begun (goal.at.strip_from-requires c).In-Is-2)
+strip_from-requires c = (c.args.first, begun (goal.at.strip_from-requires c).In-Is)
 
 
 
@@ -38,7 +38,7 @@ strip_from-requires c = (c.args.first, begun (goal.at.strip_from-requires c).In-
 pub returns-in-Is : goal.returns-in-Is
 returns-in-Is c =
     let a = c.args in
-    let s = begun (goal.at.returns-in-Is c).In-Is-2 in
+    let s = begun (goal.at.returns-in-Is c).In-Is in
     written_as (accepted_strip a.kind a.file.now (length a.out.now) a.first a.rows a.a a.c s.rows s.accepted)
     (c.strip_from.ensures a.first s)
 

@@ -13,34 +13,31 @@ use Rattle.sfdu.specs.Check.{check_labelled}
 use Rattle.sfdu.proofs.Checking.{accepted_says}
 use Rattle.row_index.specs.Private.{the_index}
 use Rattle.row_index.proofs.Building.{refused_build, index_at_the_front, rows_counted, entries_counted, no_room_to_build, index_is_built, not_built}
-use borrow.Author.Rules.{rules}
 use Rattle.row_index.proofs.build_index.Goals as goal
-use Rattle.row_index.proofs.build_index.Goals.{After-groups-entries, In-Is-2}
+use Rattle.row_index.proofs.build_index.Goals.{After-groups-entries, In-Is}
 
-is : (c : In-Is-2) → check_labelled c.args.versions c.args.file.now ≡ answer c.in-Is.rows
+is : (c : In-Is) → check_labelled c.args.versions c.args.file.now ≡ answer c.in-Is.rows
 is c = sym c.check.ensures ∙ ap counted c.in-Is.is
 
-all : (c : After-groups-entries) → length (the_index c.args.versions c.args.file.now) ≡ c.groups-entries.result
-all c = entries_counted c.args.versions c.args.file.now _ (is c.In-Is-2) ∙ sym c.groups-entries.ensures
-
-
-
+all : (c : After-groups-entries) → check_labelled c.args.versions c.args.file.now ≡ answer c.in-Is.rows → length (the_index c.args.versions c.args.file.now) ≡ c.groups-entries.result
+all c counted_so = entries_counted c.args.versions c.args.file.now _ counted_so ∙ sym c.groups-entries.ensures
 
 pub returns-then-list-entries : goal.returns-then-list-entries
 returns-then-list-entries c =
-    refused_build c.args.list.now
-    (no_room_to_build c.args.versions c.args.file.now _ (is (goal.at.returns-then-list-entries c).In-Is-2) _ (omega (arith, c.groups-entries.ensures, c.if-list-entries.true)))
+    let both = refused_build c.args.list.now
+    (no_room_to_build c.args.versions c.args.file.now _ (is (goal.at.returns-then-list-entries c).In-Is) (length c.args.list.now) (omega (arith, c.groups-entries.ensures, c.if-list-entries.true))) in
+    record { answers = both.0; leaves = both.1 }
 
 pub write_entries-requires : goal.write_entries-requires
 write_entries-requires c =
-    let (rows, accepted, many) = rows_counted c.args.versions c.args.file.now _ (is (goal.at.write_entries-requires c).In-Is-2) in
-    ((accepted_says c.args.versions c.args.file.now rows accepted).0, le_of_eq (sym (all (goal.at.write_entries-requires c).After-groups-entries)), c.if-list-entries.false)
+    let (rows, accepted, many) = rows_counted c.args.versions c.args.file.now _ (is (goal.at.write_entries-requires c).In-Is) in
+    ((accepted_says c.args.versions c.args.file.now rows accepted).0, le_of_eq (sym (all (goal.at.write_entries-requires c).After-groups-entries (is (goal.at.write_entries-requires c).In-Is))), c.if-list-entries.false)
 
 pub returns-in-Refused : goal.returns-in-Refused
 returns-in-Refused c =
-    refused_build c.args.list.now
-    (not_built c.args.versions c.args.file.now _ _ (sym c.check.ensures ∙ ap counted c.in-Refused.is) _)
-
+    let both = refused_build c.args.list.now
+    (not_built c.args.versions c.args.file.now _ _ (sym c.check.ensures ∙ ap counted c.in-Refused.is) (length c.args.list.now)) in
+    record { answers = both.0; leaves = both.1 }
 
 pub returns-else-list-entries : goal.returns-else-list-entries
 returns-else-list-entries c =
@@ -48,9 +45,10 @@ returns-else-list-entries c =
     let f = c.args.file.now in
     let old = c.args.list.now in
     let entries = c.groups-entries.result in
-    let whole = all (goal.at.returns-else-list-entries c).After-groups-entries in
-    let (rows, builds, index, many) = index_is_built v f _ (is (goal.at.returns-else-list-entries c).In-Is-2) (length old) (omega (arith, c.groups-entries.ensures, c.if-list-entries.false)) in
-    index_at_the_front old _ (the_index v f) rows _ entries _ builds index whole many
+    let whole = all (goal.at.returns-else-list-entries c).After-groups-entries (is (goal.at.returns-else-list-entries c).In-Is) in
+    let (rows, builds, index, many) = index_is_built v f _ (is (goal.at.returns-else-list-entries c).In-Is) (length old) (omega (arith, c.groups-entries.ensures, c.if-list-entries.false)) in
+    let both = index_at_the_front old _ (the_index v f) rows _ entries _ builds index whole many
     (c.write_entries.ensures
     ∙ ap (λ (t : List ℕ). t ++ drop entries old) (take_all entries (the_index v f) (le_of_eq whole))
-    ∙ ap (λ (m : ℕ). the_index v f ++ drop m old) (sym whole))
+    ∙ ap (λ (m : ℕ). the_index v f ++ drop m old) (sym whole)) in
+    record { answers = both.0; leaves = both.1 }

@@ -2,11 +2,7 @@
 use mathlib.Core.Path.{◌∙◌, sym, ap}
 use Rattle.answer.specs.Counted.{counted}
 use Rattle.row_index.proofs.Building.{counted_is_checked, refused_is_checked}
-use borrow.Author.Rules.{rules}
 use Rattle.row_index.proofs.check_index.Goals as goal
-
-
-
 
 pub returns-in-Refused : goal.returns-in-Refused
 returns-in-Refused c =

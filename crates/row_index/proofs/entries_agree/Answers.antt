@@ -1,16 +1,13 @@
 -- `row_index::entries_agree` meets its contract. The measure is what is left of the list; the invariant is `Comparing`, and the
 -- entry that the walk came to is `entry`.
-use Prim.Native.Nat.{◌-◌}
 use native.Mathlib.Omega.{arith}
 use mathlib.Core.Path.{sym, subst}
-use lib.ListN.{length}
-use borrow.Author.Rules.{rules}
 use Rattle.row_index.proofs.Entries.{Entry, entry_found}
-use Rattle.row_index.proofs.Building.{Comparing, nothing_compared, entry_agrees, entry_differs, all_compared}
+use Rattle.row_index.proofs.Building.{nothing_compared, entry_agrees, entry_differs, all_compared}
 use Rattle.row_index.proofs.entries_agree.Goals as goal
 use Rattle.row_index.proofs.entries_agree.Goals.{After-entry_from-place}
 
-entry : (c : After-entry_from-place Inv μ) → Entry c.args.versions c.args.file.now c.loop-done.done c.entry_from-place.result
+entry : (c : After-entry_from-place) → Entry c.args.versions c.args.file.now c.loop-done.done c.entry_from-place.result
 entry c =
     let v = c.args.versions in
     let f = c.args.file.now in
@@ -20,7 +17,6 @@ entry c =
 
 pub loop-done-init : goal.loop-done-init
 loop-done-init c = nothing_compared c.args.versions c.args.file.now c.args.list.now
-
 
 pub returns-then-list-done : goal.returns-then-list-done
 returns-then-list-done c =

@@ -1,12 +1,8 @@
 -- `row_index::entries_agree` meets its contract. The measure is what is left of the list; the invariant is `Comparing`, and the
 -- entry that the walk came to is `entry`.
 use Prim.Native.Nat.{◌-◌}
-use native.Mathlib.Omega.{arith}
-use mathlib.Core.Path.{sym, subst}
 use lib.ListN.{length}
-use borrow.Author.Rules.{rules}
-use Rattle.row_index.proofs.Entries.{Entry, entry_found}
-use Rattle.row_index.proofs.Building.{Comparing, nothing_compared, entry_agrees, entry_differs, all_compared}
+use Rattle.row_index.proofs.Building.{Comparing}
 use Rattle.row_index.proofs.entries_agree.Given as goal
 
 abbrev pub invariant-loop-done : goal.invariant-loop-done

@@ -9,16 +9,12 @@ use Rattle.walk.specs.declared.Leaf.{Leaf}
 use Rattle.row_index.proofs.Entries.{place_found_inside}
 use Rattle.walk.specs.Walk.{walked_to, walk_from}
 use Rattle.row_index.specs.Index.{place_found}
-use borrow.Author.Rules.{rules}
 use Rattle.row_index.proofs.entry_from.Goals as goal
 
 -- the place, and that it lies in the file
 found : (v : Versions) (f : List ℕ) (from k : ℕ) (o : Outcome Leaf) → walk_from v f from k ≡ o
     → (place_found o ≡ place_found (walk_from v f from k)) × (place_found o ≤ length f)
 found v f from k o e = (ap place_found (sym e), subst (λ (r : Outcome Leaf). place_found r ≤ length f) e (place_found_inside v f from k))
-
-
-
 
 pub returns-in-Is : goal.returns-in-Is
 returns-in-Is c =

@@ -1,9 +1,6 @@
 -- `row_index::jump_to` meets its contract: too big, no entry, an entry beyond the file, or the walk from the entry.
-use native.Mathlib.Omega.{arith}
-use Prim.Native.Nat.{◌/◌}
 use mathlib.Core.Path.{◌∙◌, sym}
 use Rattle.row_index.proofs.JumpIsRead.{too_big_to_jump, no_entry, entry_beyond, jumps_from_entry}
-use borrow.Author.Rules.{rules}
 use Rattle.row_index.proofs.jump_to.Goals as goal
 
 pub returns-then-file-gt-LARGEST_FILE : goal.returns-then-file-gt-LARGEST_FILE
@@ -11,7 +8,6 @@ returns-then-file-gt-LARGEST_FILE c = sym (too_big_to_jump c.args.versions c.arg
 
 pub returns-then-list-group : goal.returns-then-list-group
 returns-then-list-group c = sym (no_entry c.args.versions c.args.file.now c.args.list.now _ c.if-file-gt-LARGEST_FILE.false c.if-list-group.true)
-
 
 pub returns-then-file-entry : goal.returns-then-file-entry
 returns-then-file-entry c =

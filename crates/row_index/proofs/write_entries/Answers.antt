@@ -1,18 +1,16 @@
 -- `row_index::write_entries` meets its contract. The measure is what is left of the list; the invariant is `Writing`.
-use Prim.Native.Nat.{◌-◌}
 use native.Mathlib.Omega.{arith}
 use mathlib.Core.Path.{◌≡◌, sym, subst}
 use lib.ListN.{length}
-use borrow.Author.Rules.{rules, scaled_Fits}
 use Rattle.answer.proofs.Writers.{same_long, all_put}
 use Rattle.row_index.specs.Private.{the_index}
 use Rattle.row_index.proofs.Entries.{Entry, entry_found}
-use Rattle.row_index.proofs.Building.{Writing, nothing_written, entry_written}
+use Rattle.row_index.proofs.Building.{nothing_written, entry_written}
 use Rattle.row_index.proofs.write_entries.Goals as goal
 use Rattle.row_index.proofs.write_entries.Goals.{At-loop-i}
 
 -- the list keeps its length
-long : (c : At-loop-i Inv μ) → length c.loop-i.list ≡ length c.args.list.now
+long : (c : At-loop-i) → length c.loop-i.list ≡ length c.args.list.now
 long c =
     let a = c.args in
     same_long (the_index a.versions a.file.now) a.list.now a.entries c.loop-i.list c.loop-i.i c.loop-i.invariant.put c.requires.1 c.requires.2
@@ -23,10 +21,6 @@ loop-i-init c = nothing_written c.args.versions c.args.file.now c.args.entries c
 pub overflow_cast-list : goal.overflow_cast-list
 overflow_cast-list c =
     omega (arith, c.entry_from-place.ensures.1, c.loop-i.invariant.at.within, c.requires.0)
-
-pub offset_bounds-list-i : goal.offset_bounds-list-i
-offset_bounds-list-i c =
-    scaled_Fits c.loop-i.i (length c.args.list.now) 4 (omega (arith, long (goal.at.offset_bounds-list-i c).At-loop-i, c.requires.2, c.loop-i-test.true)) c.well-formed.1.1.1.0.1
 
 pub bounds-list-i : goal.bounds-list-i
 bounds-list-i c = omega (arith, long (goal.at.bounds-list-i c).At-loop-i, c.requires.2, c.loop-i-test.true)
@@ -46,7 +40,6 @@ loop-i-preserved c =
     let more = c.loop-i-test.true in
     entry_written v f c.args.entries c.args.list.now w.list w.i w.from w.leaves _ w.invariant pre.1 pre.2 more
     (subst (Entry v f w.i) (sym c.entry_from-place.ensures.0) (entry_found v f w.i w.from w.leaves w.invariant.at (omega (arith, pre.1, more))))
-
 
 pub returns : goal.returns
 returns c =

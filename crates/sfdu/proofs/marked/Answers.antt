@@ -1,7 +1,6 @@
 -- `sfdu::marked` meets its contract: the leaf's depth, and its outermost object.
 use Prim.Native.Nat.{ℕ, ◌-◌}
 use mathlib.Core.Path.{ap}
-use borrow.Author.Rules.{rules}
 use Rattle.sfdu.proofs.marked.Goals as goal
 
 pub returns : goal.returns

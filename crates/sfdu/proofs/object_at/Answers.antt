@@ -15,7 +15,6 @@ use Rattle.label.proofs.Reading.{read_has_20_bytes}
 use Rattle.sfdu.specs.Scan.{object}
 use Rattle.sfdu.specs.Private.{ObjectAt}
 use Rattle.sfdu.proofs.Steps.{value_too_long, takes, label_not_read}
-use borrow.Author.Rules.{rules}
 use Rattle.sfdu.proofs.object_at.Goals as goal
 
 module _ (versions : Versions) (part : List ℕ) (at : ℕ) where
@@ -40,38 +39,30 @@ module _ (versions : Versions) (part : List ℕ) (at : ℕ) where
       inside = omega (arith, long);
     }
 
-
-
-
 pub overflow_sub-room : goal.overflow_sub-room
 overflow_sub-room c =
     let a = c.args in
-    let l = c.l-1.given in
-    long a.versions a.part.now a.at l.0.0 (seen a.versions a.part.now a.at (ap told (sym l.1) ∙ c.read_label.ensures))
+    long a.versions a.part.now a.at c.in-Is.l (seen a.versions a.part.now a.at (ap told (sym c.in-Is.is) ∙ c.read_label.ensures))
 
 pub returns-then-room-l : goal.returns-then-room-l
 returns-then-room-l c =
     let a = c.args in
-    let l = c.l-1.given in
-    let reads = seen a.versions a.part.now a.at (ap told (sym l.1) ∙ c.read_label.ensures) in
-    (0, overruns a.versions a.part.now a.at l.0.0 reads c.if-room-l.true)
+    let reads = seen a.versions a.part.now a.at (ap told (sym c.in-Is.is) ∙ c.read_label.ensures) in
+    (0, overruns a.versions a.part.now a.at c.in-Is.l reads c.if-room-l.true)
 
 pub returns-then-is_opened : goal.returns-then-is_opened
 returns-then-is_opened c =
     let a = c.args in
-    let l = c.l-1.given in
-    let reads = seen a.versions a.part.now a.at (ap told (sym l.1) ∙ c.read_label.ensures) in
-    stands a.versions a.part.now a.at l.0.0 reads _ c.if-room-l.false (sym c.is_opened.ensures ∙ c.if-is_opened.true)
+    let reads = seen a.versions a.part.now a.at (ap told (sym c.in-Is.is) ∙ c.read_label.ensures) in
+    stands a.versions a.part.now a.at c.in-Is.l reads _ c.if-room-l.false (sym c.is_opened.ensures ∙ c.if-is_opened.true)
 
 pub returns-in-Refused : goal.returns-in-Refused
 returns-in-Refused c =
     let a = c.args in
-    let why = c.why-1.given in
-    (_, label_not_read a.versions (drop a.at a.part.now) _ _ (seen a.versions a.part.now a.at (ap told (sym why.1) ∙ c.read_label.ensures)))
+    (_, label_not_read a.versions (drop a.at a.part.now) _ _ (seen a.versions a.part.now a.at (ap told (sym c.in-Refused.is) ∙ c.read_label.ensures)))
 
 pub returns-else-is_opened : goal.returns-else-is_opened
 returns-else-is_opened c =
     let a = c.args in
-    let l = c.l-1.given in
-    let reads = seen a.versions a.part.now a.at (ap told (sym l.1) ∙ c.read_label.ensures) in
-    stands a.versions a.part.now a.at l.0.0 reads _ c.if-room-l.false (sym c.is_opened.ensures ∙ c.if-is_opened.false)
+    let reads = seen a.versions a.part.now a.at (ap told (sym c.in-Is.is) ∙ c.read_label.ensures) in
+    stands a.versions a.part.now a.at c.in-Is.l reads _ c.if-room-l.false (sym c.is_opened.ensures ∙ c.if-is_opened.false)

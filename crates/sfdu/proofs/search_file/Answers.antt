@@ -3,7 +3,6 @@ use mathlib.Core.Path.{sym, ap}
 use Rattle.answer.specs.Outcome.{mapped}
 use Rattle.sfdu.specs.Search.{see_all, nothing_seen}
 use Rattle.sfdu.proofs.Checking.{too_big, whole_file}
-use borrow.Author.Rules.{rules}
 use Rattle.sfdu.proofs.search_file.Goals as goal
 
 pub returns-then-file-gt-LARGEST_FILE : goal.returns-then-file-gt-LARGEST_FILE

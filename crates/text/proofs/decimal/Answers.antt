@@ -3,7 +3,6 @@ use Prim.Native.Nat.{ℕ, ◌/◌}
 use native.Mathlib.Omega.{arith}
 use mathlib.Core.Path.{refl, sym, subst}
 use lib.ListN.{set, replicate}
-use borrow.Author.Rules.{rules}
 use Rattle.text.proofs.Spelling.{Spelling, last_digit_first, room_in_front, digit_in_front, nothing_left}
 use Rattle.text.proofs.decimal.Goals as goal
 

@@ -17,12 +17,12 @@ use Rattle.plotter.proofs.Drawing.{window_inside}
 use Rattle.trace.proofs.OneDot.{dot_of_row, dot_refused}
 use borrow.Author.Rules.{rules}
 use Rattle.trace.proofs.behind.Goals as goal
-use Rattle.trace.proofs.behind.Goals.{In-Is-2, Then-window_fits-x}
+use Rattle.trace.proofs.behind.Goals.{In-Is, Then-window_fits-x}
 
 abbrev dot : (place byte tone : ℕ) → Bool → Dot
 dot place byte tone set = record { place = place; byte = byte; tone = tone; set = set }
 
-found : (c : In-Is-2) → find_row c.args.kind c.args.file.now (c.args.first + c.args.y) ≡ answer c.in-Is.row
+found : (c : In-Is) → find_row c.args.kind c.args.file.now (c.args.first + c.args.y) ≡ answer c.in-Is.row
 found c = sym c.row_of_line.ensures ∙ ap shown c.in-Is.is
 
 -- the window fits, and the column is in it
@@ -35,7 +35,7 @@ inside c =
     let a = c.args in
     let row = c.in-Is.row in
     let (fit, column) = both_hold (fits row.part.count a.a a.c) (ltb a.x a.c) (both c) in
-    omega (arith, window_inside a.file.now row a.a a.c (row_inside a.kind a.file.now (a.first + a.y) row (found c.In-Is-2)) fit, ltb-true a.x a.c column)
+    omega (arith, window_inside a.file.now row a.a a.c (row_inside a.kind a.file.now (a.first + a.y) row (found c.In-Is)) fit, ltb-true a.x a.c column)
 
 
 pub overflow_add-place : goal.overflow_add-place
@@ -55,14 +55,14 @@ returns-then-window_fits-x c =
     let byte = get_or a.file.now place 0 in
     ap (λ (s : Bool). answer (dot place byte c.tone-tone.result s)) c.is_dot-set.ensures
     ∙ ap (λ (t : ℕ). answer (dot place byte t (is_dot t a.x a.y))) c.tone-tone.ensures
-    ∙ sym (dot_of_row a.kind a.file.now a.first a.a a.c a.x a.y row (found (goal.at.returns-then-window_fits-x c).In-Is-2) true (both (goal.at.returns-then-window_fits-x c).Then-window_fits-x))
+    ∙ sym (dot_of_row a.kind a.file.now a.first a.a a.c a.x a.y row (found (goal.at.returns-then-window_fits-x c).In-Is) true (both (goal.at.returns-then-window_fits-x c).Then-window_fits-x))
 
 
 pub returns-else-window_fits-x : goal.returns-else-window_fits-x
 returns-else-window_fits-x c =
     let a = c.args in
     let row = c.in-Is.row in
-    sym (dot_of_row a.kind a.file.now a.first a.a a.c a.x a.y row (found (goal.at.returns-else-window_fits-x c).In-Is-2) false (ap (λ (t : Bool). t && ltb a.x a.c) (sym c.window_fits.ensures) ∙ c.if-window_fits-x.false))
+    sym (dot_of_row a.kind a.file.now a.first a.a a.c a.x a.y row (found (goal.at.returns-else-window_fits-x c).In-Is) false (ap (λ (t : Bool). t && ltb a.x a.c) (sym c.window_fits.ensures) ∙ c.if-window_fits-x.false))
 
 pub returns-in-Refused : goal.returns-in-Refused
 returns-in-Refused c =

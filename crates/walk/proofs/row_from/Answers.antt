@@ -5,13 +5,10 @@ use Rattle.answer.specs.Outcome.{Outcome, and_then}
 use Rattle.walk.specs.declared.Leaf.{Leaf}
 use Rattle.walk.specs.Walk.{walked_to, row_at_leaf}
 use Rattle.walk.proofs.Finding.{walked_value_fits}
-use borrow.Author.Rules.{rules}
 use Rattle.walk.proofs.row_from.Goals as goal
-
 
 pub overflow_add-value : goal.overflow_add-value
 overflow_add-value c = omega (arith, walked_value_fits c.args.versions c.args.file.now c.args.from c.args.leaves c.in-Is.leaf (sym c.walk_from.ensures ∙ ap walked_to c.in-Is.is))
-
 
 pub returns-in-Is : goal.returns-in-Is
 returns-in-Is c = ap (λ (o : Outcome Leaf). and_then o row_at_leaf) (sym (sym c.walk_from.ensures ∙ ap walked_to c.in-Is.is))

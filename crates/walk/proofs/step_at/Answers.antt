@@ -3,11 +3,7 @@ use mathlib.Core.Path.{◌∙◌, sym, ap}
 use Rattle.label.specs.Label.{told}
 use Rattle.label.proofs.Reading.{read_has_20_bytes}
 use Rattle.walk.proofs.Walking.{step_not_read, step_opened, step_too_long, step_leaf}
-use borrow.Author.Rules.{rules}
 use Rattle.walk.proofs.step_at.Goals as goal
-
-
-
 
 pub returns-then-is_opened : goal.returns-then-is_opened
 returns-then-is_opened c =

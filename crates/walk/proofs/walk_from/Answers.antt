@@ -1,19 +1,18 @@
 -- `walk::walk_from` meets its contract. The measure is what is left of the file; the invariant is `OnTheWay`, each arm is one
 -- law of `WalkLoop`, and what an arm knows of its step is `opened` or `leaf`.
-use Prim.Native.Nat.{◌+◌, ◌-◌, ◌≤◌}
+use Prim.Native.Nat.{◌+◌, ◌≤◌}
 use native.Mathlib.Omega.{arith}
 use mathlib.Core.Path.{◌≡◌, ◌∙◌, sym, ap}
 use mathlib.Core.Option.{some}
 use lib.ListN.{length, drop}
-use borrow.Author.Rules.{rules}
 use Rattle.answer.specs.Outcome.{answer}
 use Rattle.walk.specs.Walk.{step_at}
 use Rattle.walk.specs.Private.{stepped}
 use Rattle.walk.proofs.WalkLoop.{too_big_to_walk, place_beyond, step_seen, OnTheWay, sets_out, comes_to_the_end, meets_a_fault, steps_in, leaf_inside, arrives, steps_over}
 use Rattle.walk.proofs.walk_from.Goals as goal
-use Rattle.walk.proofs.walk_from.Goals.{In-Closed-2, In-Open}
+use Rattle.walk.proofs.walk_from.Goals.{In-Closed, In-Open}
 
-opened : (c : In-Open Inv μ)
+opened : (c : In-Open)
     → OnTheWay c.args.versions c.args.file.now c.args.from c.args.leaves (c.loop-at.at + 20) c.loop-at.k
 opened c =
     let a = c.args in
@@ -22,12 +21,12 @@ opened c =
     steps_in a.versions f _ _ w.at w.k w.invariant c.loop-at-test.true
     (step_seen a.versions f w.at (ap stepped (sym c.in-Open.is) ∙ c.step_at.ensures))
 
-leaf : (c : In-Closed-2 Inv μ) → step_at c.args.versions (drop c.loop-at.at c.args.file.now) ≡ answer (some c.in-Closed.found)
+leaf : (c : In-Closed) → step_at c.args.versions (drop c.loop-at.at c.args.file.now) ≡ answer (some c.in-Closed.found)
 leaf c =
     step_seen c.args.versions c.args.file.now c.loop-at.at
     (ap stepped (sym c.in-Closed.is) ∙ c.step_at.ensures)
 
-inside : (c : In-Closed-2 Inv μ) → c.loop-at.at + 20 + c.in-Closed.found.length ≤ length c.args.file.now
+inside : (c : In-Closed) → c.loop-at.at + 20 + c.in-Closed.found.length ≤ length c.args.file.now
 inside c =
     let w = c.loop-at in
     leaf_inside c.args.versions c.args.file.now _ _ w.at w.k w.invariant c.loop-at-test.true _ (leaf c)
@@ -41,7 +40,6 @@ returns-then-file-from c = sym (place_beyond c.args.versions c.args.file.now _ _
 pub loop-at-init : goal.loop-at-init
 loop-at-init c = sets_out c.args.versions c.args.file.now _ _ c.if-file-gt-LARGEST_FILE.false c.if-file-from.false
 
-
 pub returns-in-Fault : goal.returns-in-Fault
 returns-in-Fault c =
     let a = c.args in
@@ -49,7 +47,6 @@ returns-in-Fault c =
     let w = c.loop-at in
     sym (meets_a_fault a.versions f _ _ w.at w.k w.invariant c.loop-at-test.true _ _
     (step_seen a.versions f w.at (ap stepped (sym c.in-Fault.is) ∙ c.step_at.ensures)))
-
 
 pub overflow_add-at : goal.overflow_add-at
 overflow_add-at c = omega (arith, (opened c).within)
@@ -60,25 +57,24 @@ loop-at-smaller-in-Open c = omega (arith, (opened c).within)
 pub loop-at-preserved-in-Open : goal.loop-at-preserved-in-Open
 loop-at-preserved-in-Open c = opened c
 
-
 pub returns-then-k-eq0 : goal.returns-then-k-eq0
 returns-then-k-eq0 c =
     let w = c.loop-at in
-    sym (arrives c.args.versions c.args.file.now _ _ w.at w.k w.invariant c.loop-at-test.true _ (leaf (goal.at.returns-then-k-eq0 c).In-Closed-2) c.if-k-eq0.true)
+    sym (arrives c.args.versions c.args.file.now _ _ w.at w.k w.invariant c.loop-at-test.true _ (leaf (goal.at.returns-then-k-eq0 c).In-Closed) c.if-k-eq0.true)
 
 pub overflow_add-body : goal.overflow_add-body
-overflow_add-body c = omega (arith, inside (goal.at.overflow_add-body c).In-Closed-2)
+overflow_add-body c = omega (arith, inside (goal.at.overflow_add-body c).In-Closed)
 
 pub overflow_add-at-in-Closed : goal.overflow_add-at-in-Closed
-overflow_add-at-in-Closed c = omega (arith, inside (goal.at.overflow_add-at-in-Closed c).In-Closed-2)
+overflow_add-at-in-Closed c = omega (arith, inside (goal.at.overflow_add-at-in-Closed c).In-Closed)
 
 pub loop-at-smaller : goal.loop-at-smaller
-loop-at-smaller c = omega (arith, inside (goal.at.loop-at-smaller c).In-Closed-2)
+loop-at-smaller c = omega (arith, inside (goal.at.loop-at-smaller c).In-Closed)
 
 pub loop-at-preserved : goal.loop-at-preserved
 loop-at-preserved c =
     let w = c.loop-at in
-    steps_over c.args.versions c.args.file.now _ _ w.at w.k w.invariant c.loop-at-test.true _ (leaf (goal.at.loop-at-preserved c).In-Closed-2) c.if-k-eq0.false
+    steps_over c.args.versions c.args.file.now _ _ w.at w.k w.invariant c.loop-at-test.true _ (leaf (goal.at.loop-at-preserved c).In-Closed) c.if-k-eq0.false
 
 -- ---- the end of the file
 pub returns : goal.returns
