@@ -4,7 +4,7 @@ use std::env;
 use std::path::{Path, PathBuf};
 use std::process::ExitCode;
 
-/// Where to look for the archive instead of the place where `rt staticlib capi` writes it.
+/// Where to look for the archive instead of the place where `tools/archive` writes it.
 const FOLDER_VARIABLE: &str = "CRESTULBINO_LIB_DIR";
 
 fn main() -> ExitCode {
@@ -14,7 +14,7 @@ fn main() -> ExitCode {
     println!("cargo:rerun-if-changed={}", archive.display());
     if !archive.is_file() {
         eprintln!("There is no proved library at {}.", archive.display());
-        eprintln!("Prove and build it with `rt staticlib capi` in the repository's folder,");
+        eprintln!("Prove and build it with `tools/archive` in the repository's folder,");
         eprintln!("or name the folder of libcapi.a in {FOLDER_VARIABLE}, as an absolute path.");
         return ExitCode::FAILURE;
     }

@@ -1,13 +1,13 @@
 // Reading a file through a reader into lent memory. What the bytes mean is left to the crates above.
 //
-// No contract can say what a file gives: `read` bounds the number that is answered, and of a reader whose bytes are not known says
-// nothing of them. Promised is what holds whatever is given: `size` is at
-// most the memory's length, the memory keeps its length, and `failed` is set only where room is left.
-// Free otherwise are `size`, `failed` and every byte of the memory, those read and those after them.
+// No contract can say what a file gives: that of `read` bounds the number that is answered and, where a reader's bytes are not known,
+// says nothing of them. Promised is what holds whatever is given: `size` is at most the memory's length, the memory keeps its length,
+// and `failed` is set only where room is left. Free otherwise are `size`, `failed` and every byte of the memory, those read and those
+// after them.
 #![tactic(auto)]
 
 ghost use Rattle.std.specs.Prelude.{◌≡◌, true, ◌<◌, length};
-ghost use Rattle.std.specs.Io.{IsPrefixLen};
+ghost use Rattle.std.specs.Counts.{IsPrefixLen};
 
 use std::io::Read;
 

@@ -12,13 +12,14 @@ fn print(rt: &HostRuntime, file: &[u8]) -> io::Result<()> {
     io::writer(rt).write_all(&text[..size])
 }
 
-// Reads one byte more than the largest file that is listed: whatever fills the memory is too big.
+// Reads one byte more than the largest file that is listed: whatever fills the memory is too big. A read or a write that fails
+// is told on standard error, with status 1.
 fn main(rt: HostRuntime) -> io::Result<()> {
     let mut memory = [0u8; 65537];
     let mut standard_input = rt.stdin();
     let input = input::read_up_to(&mut standard_input, &mut memory);
     if input.failed {
-        return Err(io::Error::other("standard input"));
+        return Err(io::Error::other("standard input could not be read"));
     }
     let size = input.size;
     print(&rt, &memory[..size])

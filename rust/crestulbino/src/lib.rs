@@ -121,7 +121,7 @@
 //!
 //! # The archive
 //!
-//! `rt staticlib capi` proves the library and writes `target/staticlib/libcapi.a`, where the build
+//! `tools/archive` proves the library and writes `target/staticlib/libcapi.a`, where the build
 //! of this crate looks for it; an absolute path in `CRESTULBINO_LIB_DIR` names another folder. A
 //! call panics only where that archive does not behave as its header says, which means that it is
 //! of another version.

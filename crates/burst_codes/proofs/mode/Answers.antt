@@ -1,14 +1,9 @@
 -- `mode` meets its contract: each arm has its number, and the last one any other.
-use Prim.Native.Nat.{ℕ, suc, ◌≤◌}
 use native.Mathlib.Omega.{arith}
-use mathlib.Core.Path.{◌≡◌, sym, ap}
+use mathlib.Core.Path.{sym, ap}
 use borrow.Author.Tests.{lt-leb}
 use Rattle.burst_codes.specs.Modes.{numbered}
 use Rattle.burst_codes.proofs.mode.Goals as goal
-
--- a number from k on that is not k
-beyond : (k n : ℕ) → k ≤ n → (n ≡ k → ⊥) → suc k ≤ n
-beyond k n h d = omega (arith, d)
 
 pub returns-in-0 : goal.returns-in-0
 returns-in-0 c = sym (ap numbered c.in-0.is)
@@ -35,7 +30,4 @@ pub returns-in-7 : goal.returns-in-7
 returns-in-7 c = sym (ap numbered c.in-7.is)
 
 pub returns-in_default : goal.returns-in_default
-returns-in_default c =
-    let n = c.args.number in
-    let r = c.in_default.rest in
-    simp (lt-leb n 7 (beyond 7 n (beyond 6 n (beyond 5 n (beyond 4 n (beyond 3 n (beyond 2 n (beyond 1 n (beyond 0 n (omega arith) r.0.0.0.0.0.0.0.1) r.0.0.0.0.0.0.1) r.0.0.0.0.0.1) r.0.0.0.0.1) r.0.0.0.1) r.0.0.1) r.0.1) r.1))
+returns-in_default c = simp (lt-leb c.args.number 7 (omega arith))

@@ -10,33 +10,27 @@ use Rattle.burst_layout.specs.declared.Storage.TheVariants.{Unsigned, Signed, Fl
 use Rattle.burst_fields.specs.Fields.{signed}
 use Rattle.burst_fields.proofs.SignedNumbers.{signed_fits}
 use Rattle.burst_fields.proofs.Contents.{size_by_type, is_unsigned, is_signed, is_float4, is_float8, is_text}
-use borrow.Author.Rules.{rules}
 use Rattle.burst_fields.proofs.content.Goals as goal
-
 
 pub four_at-requires : goal.four_at-requires
 four_at-requires c =
     let size = size_by_type c.args.stored Unsigned c.args.part.count c.requires.1 c.in-Unsigned.is in
     omega (arith, c.requires.0, size)
 
-
 pub four_at-requires-in-Signed : goal.four_at-requires-in-Signed
 four_at-requires-in-Signed c =
     let size = size_by_type c.args.stored Signed c.args.part.count c.requires.1 c.in-Signed.is in
     omega (arith, c.requires.0, size)
-
 
 pub four_at-requires-in-Float4 : goal.four_at-requires-in-Float4
 four_at-requires-in-Float4 c =
     let size = size_by_type c.args.stored Float4 c.args.part.count c.requires.1 c.in-Float4.is in
     omega (arith, c.requires.0, size)
 
-
 pub eight_at-requires : goal.eight_at-requires
 eight_at-requires c =
     let size = size_by_type c.args.stored Float8 c.args.part.count c.requires.1 c.in-Float8.is in
     omega (arith, c.requires.0, size)
-
 
 pub returns-in-Unsigned : goal.returns-in-Unsigned
 returns-in-Unsigned c =

@@ -1,7 +1,6 @@
 -- `eight_at` meets its contract: the second four bytes weigh 2^32 times the first.
 use native.Mathlib.Omega.{arith}
 use Rattle.little.proofs.LittleEndian.{eight_bytes}
-use borrow.Author.Rules.{rules}
 use Rattle.burst_fields.proofs.eight_at.Goals as goal
 
 pub returns : goal.returns

@@ -7,26 +7,21 @@ use Rattle.fixed_rows.proofs.Rows.{row_inside, row_has_its_size}
 use Rattle.bursts.specs.Rows.{bursts}
 use Rattle.bursts.proofs.Rows.{takes_bytes}
 use Rattle.burst_fields.specs.Fields.{field_of}
-use borrow.Author.Rules.{rules}
 use Rattle.burst_fields.proofs.field.Goals as goal
-
-
-pub field_from-requires : goal.field_from-requires
-field_from-requires c =
-    let a = c.args in
-    let row = c.row-1.given in
-    let s = bursts a.first in
-    let found = sym (jump_is_read s (takes_bytes a.first) a.file.now a.k) ∙ sym c.jump_to.ensures ∙ ap shown row.1 in
-    omega (arith, row_inside s (takes_bytes a.first) a.file.now a.k row.0.0 found, row_has_its_size s a.file.now a.k row.0.0 found)
-
 
 pub returns-in-Is : goal.returns-in-Is
 unfolding field_of
 returns-in-Is c =
     let a = c.args in
-    let row = c.row-1.given in
-    let found = sym (jump_is_read (bursts a.first) (takes_bytes a.first) a.file.now a.k) ∙ sym c.jump_to.ensures ∙ ap shown row.1 in
+    let found = sym (jump_is_read (bursts a.first) (takes_bytes a.first) a.file.now a.k) ∙ sym c.jump_to.ensures ∙ ap shown c.in-Is.is in
     c.field_from.ensures ∙ simp found
+
+pub field_from-requires : goal.field_from-requires
+field_from-requires c =
+    let a = c.args in
+    let s = bursts a.first in
+    let found = sym (jump_is_read s (takes_bytes a.first) a.file.now a.k) ∙ sym c.jump_to.ensures ∙ ap shown c.in-Is.is in
+    omega (arith, row_inside s (takes_bytes a.first) a.file.now a.k c.in-Is.row found, row_has_its_size s a.file.now a.k c.in-Is.row found)
 
 pub returns-in-Refused : goal.returns-in-Refused
 unfolding field_of

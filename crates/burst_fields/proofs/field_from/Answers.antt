@@ -3,27 +3,21 @@ use native.Mathlib.Omega.{arith}
 use mathlib.Core.Path.{◌∙◌, sym, ap}
 use Rattle.burst_layout.specs.Layout.{found}
 use Rattle.burst_layout.proofs.EndToEnd.{field_is_in_the_row, field_fits_its_type}
-use borrow.Author.Rules.{rules}
 use Rattle.burst_fields.proofs.field_from.Goals as goal
-
 
 pub overflow_add-place : goal.overflow_add-place
 overflow_add-place c =
-    let line = c.line-1.given in
-    let q = sym c.line_of.ensures ∙ ap found line.1 in
-    omega (arith, c.requires, field_is_in_the_row c.args.position line.0.0 q, c.well-formed.1)
+    let q = sym c.line_of.ensures ∙ ap found c.in-Is.is in
+    omega (arith, c.requires, field_is_in_the_row c.args.position c.in-Is.line q)
 
 pub content-requires : goal.content-requires
 content-requires c =
-    let line = c.line-1.given in
-    let q = sym c.line_of.ensures ∙ ap found line.1 in
-    (omega (arith, c.requires, field_is_in_the_row c.args.position line.0.0 q), field_fits_its_type c.args.position line.0.0 q)
-
+    let q = sym c.line_of.ensures ∙ ap found c.in-Is.is in
+    (omega (arith, c.requires, field_is_in_the_row c.args.position c.in-Is.line q), field_fits_its_type c.args.position c.in-Is.line q)
 
 pub returns-in-Is : goal.returns-in-Is
 returns-in-Is c =
-    let line = c.line-1.given in
-    let q = sym c.line_of.ensures ∙ ap found line.1 in
+    let q = sym c.line_of.ensures ∙ ap found c.in-Is.is in
     c.content.ensures ∙ simp q
 
 pub returns-in-Refused : goal.returns-in-Refused

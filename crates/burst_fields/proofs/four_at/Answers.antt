@@ -2,7 +2,6 @@
 use mathlib.Core.Path.{◌∙◌, sym, ap}
 use Rattle.little.specs.LittleEndian.{le_number}
 use Rattle.little.proofs.LittleEndian.{four_bytes}
-use borrow.Author.Rules.{rules}
 use Rattle.burst_fields.proofs.four_at.Goals as goal
 
 pub returns : goal.returns

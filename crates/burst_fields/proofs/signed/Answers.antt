@@ -1,6 +1,5 @@
 -- `signed` meets its contract: by the comparison with 2^31; the difference is a number that an `i64` holds.
 use native.Mathlib.Omega.{arith}
-use borrow.Author.Rules.{rules}
 use borrow.Author.Tests.{lt-ltb, le-ltb}
 use mir.Syntax.{w64}
 use mir.Facts.{to_z_pos, to_z-of_z}

@@ -7,27 +7,13 @@ use Rattle.burst_fields.specs.Fields.{valued}
 use borrow.Author.Rules.{rules}
 use Rattle.burst_fields.proofs.verdict.Goals as goal
 
-
-
-
-
-
-
-
-
-
-
-
 pub returns-in-Unsigned : goal.returns-in-Unsigned
 returns-in-Unsigned c =
-    let n = c.n-1.given in
-    c.verdict.ensures ∙ simp (sym c.field.ensures ∙ ap valued n.1, to_z_pos w64 {n = n.0.0} (omega arith))
+    c.verdict.ensures ∙ simp (sym c.field.ensures ∙ ap valued c.in-Unsigned.is, to_z_pos w64 {n = c.in-Unsigned.n} (omega arith))
 
 pub returns-in-Signed : goal.returns-in-Signed
 returns-in-Signed c =
-    let n = c.n-in-Signed-1.given in
-    let g = c.known_told-in-Signed-1.given in
-    c.verdict-in-Signed.ensures ∙ sym (simp (sym c.field.ensures ∙ ap valued n.1, to_z-of_z {w = w64} {z = n.0.0} (record { sfits = g.0.1 })))
+    c.verdict-in-Signed.ensures ∙ sym (simp (sym c.field.ensures ∙ ap valued c.in-Signed.is, to_z-of_z {w = w64} {z = c.in-Signed.n} (search rules)))
 
 pub returns-in-Float4 : goal.returns-in-Float4
 returns-in-Float4 c = simp (sym c.field.ensures ∙ ap valued c.in-Float4.is)

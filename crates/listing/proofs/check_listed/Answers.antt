@@ -2,7 +2,6 @@
 use mathlib.Core.Path.{◌∙◌, sym, ap}
 use Rattle.sfdu.specs.Check.{counting}
 use Rattle.listing.proofs.Listed.{too_big_to_list, check_is_the_count}
-use borrow.Author.Rules.{rules}
 use Rattle.listing.proofs.check_listed.Goals as goal
 
 pub returns-then-file-gt-LARGEST_LISTED : goal.returns-then-file-gt-LARGEST_LISTED

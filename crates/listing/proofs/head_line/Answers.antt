@@ -1,21 +1,7 @@
 -- `listing::head_line` meets its contract: three pieces, or five for a refusal, in the order of `head_text`.
 use mathlib.Core.Path.{sym}
 use Rattle.listing.proofs.Lines.{three_pieces, five_pieces}
-use borrow.Author.Rules.{rules}
 use Rattle.listing.proofs.head_line.Goals as goal
-
-
-
-
-
-
-
-
-
-
-
-
-
 
 pub returns-in-Is : goal.returns-in-Is
 returns-in-Is c =

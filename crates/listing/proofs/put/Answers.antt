@@ -1,26 +1,12 @@
 -- `listing::put` meets its contract: the copy to `&mut out[at..]` leaves all else as it was.
-use Prim.Native.Nat.{ℕ, ◌+◌, ◌-◌}
+use Prim.Native.Nat.{ℕ, ◌+◌}
 use native.Mathlib.Omega.{arith}
 use mathlib.Core.Path.{◌≡◌, refl, ◌∙◌, sym, ap}
 use mathlib.Core.List.{◌++◌}
-use lib.ListN.{length, take, drop, length-drop}
+use lib.ListN.{length, take, drop}
 use lib.Seq.{length-take-le}
 use Rattle.listing.proofs.Putting.{put_between}
-use borrow.Author.Rules.{rules}
 use Rattle.listing.proofs.put.Goals as goal
-
-
-
-
-
-
-
-
-
-
-
-
-
 
 pub returns : goal.returns
 returns c =
@@ -32,6 +18,6 @@ returns c =
     record {
       ends = ap (λ (k : ℕ). a.at + k) (sym is);
       leaves =
-          put_between old piece c.copy.new.1.0 (length old) a.at refl (omega (arith, is, c.requires.size_in_bounds)) c.copy.ensures.1
+          put_between old piece c.copy_from_slice.new.self (length old) a.at size refl (omega (arith, is, c.requires.size_in_bounds)) c.copy_from_slice.ensures.after (sym is)
           ∙ ap (λ (k : ℕ). take a.at old ++ (piece ++ drop (a.at + k) old)) is;
     }

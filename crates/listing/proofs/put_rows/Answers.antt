@@ -1,11 +1,9 @@
 -- `listing::put_rows` meets its contract. The loop's invariant is `Underway`: the rows listed so far, and that walking on
 -- finds the rest; the measure is how many are left. The walk is never refused.
-use Prim.Native.Nat.{◌-◌}
 use native.Mathlib.Omega.{arith}
 use mathlib.Core.Path.{◌∙◌, sym, ap}
-use borrow.Author.Rules.{rules}
 use Rattle.walk.specs.Walk.{walked_to}
-use Rattle.listing.proofs.Underway.{Underway, Comes, sets_out, arrives, never_refused, ends_in_the_file, line_is_whole, line_has_room, text_was_put, turns}
+use Rattle.listing.proofs.Underway.{Comes, sets_out, arrives, never_refused, ends_in_the_file, line_is_whole, line_has_room, text_was_put, turns}
 use Rattle.listing.proofs.put_rows.Goals as goal
 use Rattle.listing.proofs.put_rows.Goals.{In-Is}
 
@@ -16,14 +14,13 @@ comes c = record { more = c.loop-number-test.true; walked = sym c.walk_from.ensu
 pub loop-number-init : goal.loop-number-init
 loop-number-init c = sets_out _ _ _ _ c.requires.file_value
 
-
 pub row_line-requires : goal.row_line-requires
 row_line-requires c = omega (arith, ends_in_the_file (comes (goal.at.row_line-requires c).In-Is))
 
 pub put-end-requires : goal.put-end-requires
 put-end-requires c =
     let m = comes (goal.at.put-end-requires c).In-Is in
-    let holds = c.row_Line.ensures in
+    let holds = c.row_line.ensures in
     let room = c.requires.at_bound in record { room = line_is_whole m holds; size_in_bounds = line_has_room m holds room.0 room.1 }
 
 pub overflow_add-from : goal.overflow_add-from
@@ -39,14 +36,10 @@ pub loop-number-preserved : goal.loop-number-preserved
 loop-number-preserved c =
     let m = comes (goal.at.loop-number-preserved c).In-Is in
     let put = c.put-end in
-    turns m (omega (arith, c.requires.at_bound)) put.auto.1.0 (text_was_put m c.row_Line.ensures put.ensures)
-
-
-
+    turns m (omega (arith, c.requires.at_bound)) put.auto.out (text_was_put m c.row_line.ensures put.ensures)
 
 pub returns-in-Refused : goal.returns-in-Refused
 returns-in-Refused c = absurd (never_refused c.loop-number.invariant c.loop-number-test.true _ _ (sym c.walk_from.ensures ∙ ap walked_to c.in-Refused.is))
-
 
 pub returns : goal.returns
 returns c = arrives c.loop-number.invariant c.loop-number-test.false

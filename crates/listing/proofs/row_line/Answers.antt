@@ -1,10 +1,6 @@
 -- `listing::row_line` meets its contract: six pieces in the order of `row_text`.
 use Rattle.listing.proofs.Lines.{six_pieces}
-use borrow.Author.Rules.{rules}
 use Rattle.listing.proofs.row_line.Goals as goal
-
-
-
 
 pub returns : goal.returns
 returns c =

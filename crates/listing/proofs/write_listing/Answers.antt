@@ -9,17 +9,17 @@ use Rattle.listing.proofs.write_listing.Goals as goal
 pub put-head-requires : goal.put-head-requires
 put-head-requires c = let whole = whole_line c.head_line.ensures in record { room = whole; size_in_bounds = omega (arith, whole.fits) }
 
-
 pub put_rows-requires : goal.put_rows-requires
 put_rows-requires c =
     let is = c.check_listed-checked.ensures in
     let rows = ap counted c.in-Is.is in record { file_value = sym is ∙ rows; at_bound = (head_is_short c.args.file.now is c.head_line.ensures c.put-head.ensures _ rows, search rules) }
 
-
 pub returns-in-Is : goal.returns-in-Is
 returns-in-Is c =
-    rows_follow c.args.file.now c.check_listed-checked.ensures c.head_line.ensures c.put-head.ensures c.put_rows.ensures
+    let both = rows_follow c.args.file.now c.check_listed-checked.ensures c.head_line.ensures c.put-head.ensures c.put_rows.ensures in
+    record { writes = both.0; front = both.1 }
 
 pub returns-in-Refused : goal.returns-in-Refused
 returns-in-Refused c =
-    nothing_follows c.args.file.now c.check_listed-checked.ensures c.head_line.ensures c.put-head.ensures _ _ (ap counted c.in-Refused.is)
+    let both = nothing_follows c.args.file.now c.check_listed-checked.ensures c.head_line.ensures c.put-head.ensures _ _ (ap counted c.in-Refused.is) in
+    record { writes = both.0; front = both.1 }

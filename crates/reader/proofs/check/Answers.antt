@@ -2,13 +2,7 @@
 use mathlib.Core.Path.{◌∙◌, sym, ap}
 use Rattle.reader.specs.declared.Kind.{Kind}
 use Rattle.reader.specs.Rows.{check_file}
-use borrow.Author.Rules.{rules}
 use Rattle.reader.proofs.check.Goals as goal
-
-
-
-
-
 
 pub returns-in-Labelled : goal.returns-in-Labelled
 unfolding check_file

@@ -1,6 +1,5 @@
 -- `reader::find_labelled` meets its contract: by the kind's own promise.
 use Rattle.reader.specs.Read.{find_row}
-use borrow.Author.Rules.{rules}
 use Rattle.reader.proofs.find_labelled.Goals as goal
 
 pub returns : goal.returns

@@ -2,13 +2,7 @@
 use mathlib.Core.Path.{◌∙◌, sym, ap}
 use Rattle.reader.specs.declared.Kind.{Kind}
 use Rattle.reader.specs.Read.{find_row}
-use borrow.Author.Rules.{rules}
 use Rattle.reader.proofs.find_row.Goals as goal
-
-
-
-
-
 
 pub returns-in-Labelled : goal.returns-in-Labelled
 unfolding find_row

@@ -9,14 +9,13 @@ use Rattle.answer.specs.declared.Shown.{Shown}
 use Rattle.reader.specs.declared.Kind.TheVariants.{Bursts}
 use Rattle.reader.specs.Read.{jump_to, jump_row}
 use Rattle.reader.proofs.Found.{jumped_inside}
-use borrow.Author.Rules.{rules}
 use Rattle.reader.proofs.jump_bursts.Goals as goal
 
 pub window_in-requires : goal.window_in-requires
 unfolding jump_to
 window_in-requires c =
     let a = c.args in
-    λ p e. omega (arith, jumped_inside (Bursts a.first) a.file.now [] a.k p (sym c.jump_to.ensures ∙ e), c.well-formed.1)
+    λ p e. omega (arith, jumped_inside (Bursts a.first) a.file.now [] a.k p (sym c.jump_to.ensures ∙ e))
 
 pub returns : goal.returns
 unfolding jump_row jump_to

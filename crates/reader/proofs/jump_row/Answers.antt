@@ -2,13 +2,7 @@
 use mathlib.Core.Path.{◌∙◌, sym, ap}
 use Rattle.reader.specs.declared.Kind.{Kind}
 use Rattle.reader.specs.Read.{jump_to, jump_row}
-use borrow.Author.Rules.{rules}
 use Rattle.reader.proofs.jump_row.Goals as goal
-
-
-
-
-
 
 pub returns-in-Labelled : goal.returns-in-Labelled
 unfolding jump_row jump_to

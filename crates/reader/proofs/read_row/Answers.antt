@@ -7,12 +7,11 @@ use Rattle.answer.specs.Window.{window_in}
 use Rattle.answer.specs.declared.Shown.{Shown}
 use Rattle.reader.specs.Read.{read_row}
 use Rattle.reader.proofs.Found.{row_inside}
-use borrow.Author.Rules.{rules}
 use Rattle.reader.proofs.read_row.Goals as goal
 
 pub window_in-requires : goal.window_in-requires
 window_in-requires c =
-    λ p e. omega (arith, row_inside _ _ _ p (sym c.find_row.ensures ∙ e), c.well-formed.1.1.0.1)
+    λ p e. omega (arith, row_inside _ _ _ p (sym c.find_row.ensures ∙ e))
 
 pub returns : goal.returns
 unfolding read_row

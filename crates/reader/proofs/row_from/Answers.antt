@@ -2,13 +2,7 @@
 use mathlib.Core.Path.{◌∙◌, sym, ap}
 use Rattle.reader.specs.declared.Kind.{Kind}
 use Rattle.reader.specs.Read.{row_from}
-use borrow.Author.Rules.{rules}
 use Rattle.reader.proofs.row_from.Goals as goal
-
-
-
-
-
 
 pub returns-in-Labelled : goal.returns-in-Labelled
 unfolding row_from

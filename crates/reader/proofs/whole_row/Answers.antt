@@ -7,13 +7,7 @@ use Rattle.bursts.specs.Rows.{bursts}
 use Rattle.bursts.proofs.Rows as burst_rows
 use Rattle.reader.specs.declared.Kind.{Kind}
 use Rattle.reader.specs.Read.{find_row}
-use borrow.Author.Rules.{rules}
 use Rattle.reader.proofs.whole_row.Goals as goal
-
-
-
-
-
 
 pub returns-in-Labelled : goal.returns-in-Labelled
 unfolding find_row

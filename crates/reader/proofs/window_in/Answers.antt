@@ -3,9 +3,7 @@ use native.Mathlib.Omega.{arith}
 use mathlib.Core.Path.{◌∙◌, sym, ap}
 use Rattle.answer.specs.Window.{shown}
 use Rattle.answer.proofs.Windows.{fitting_is_inside}
-use borrow.Author.Rules.{rules}
 use Rattle.reader.proofs.window_in.Goals as goal
-
 
 pub overflow_add-place : goal.overflow_add-place
 overflow_add-place c =
@@ -15,7 +13,6 @@ overflow_add-place c =
 pub returns-then-window_fits : goal.returns-then-window_fits
 returns-then-window_fits c =
     simp (ap shown c.in-Is.is, (sym c.window_fits.ensures ∙ c.if-window_fits.true))
-
 
 pub returns-else-window_fits : goal.returns-else-window_fits
 returns-else-window_fits c = simp (ap shown c.in-Is.is, (sym c.window_fits.ensures ∙ c.if-window_fits.false))

@@ -6,7 +6,6 @@ use Rattle.answer.specs.Window.{bytes_at}
 use Rattle.substitute.specs.Chosen.{file_named}
 use Rattle.substitute.specs.declared.Source.{Source}
 use Rattle.substitute.specs.declared.Chosen.{Chosen}
-use borrow.Author.Rules.{rules}
 use Rattle.substitute.proofs.bytes_of.Goals as goal
 
 -- the row's bytes in the file that it names
@@ -15,9 +14,6 @@ of_the_named : (original substitute : List ℕ) (found : Chosen) {s : Source} �
     ≡ bytes_at (file_named found.source original substitute) found.row.part.place found.row.part.count
 of_the_named original substitute found e =
     ap (λ (s : Source). bytes_at (file_named s original substitute) found.row.part.place found.row.part.count) (sym e)
-
-
-
 
 pub returns-in-Original : goal.returns-in-Original
 returns-in-Original c =

@@ -5,11 +5,7 @@ use Rattle.reader.specs.declared.Kind.TheVariants.{Labelled}
 use Rattle.substitute.specs.Chosen.{from}
 use Rattle.substitute.specs.declared.Source.TheVariants.{Original}
 use Rattle.substitute.proofs.Rows.{found_is_row}
-use borrow.Author.Rules.{rules}
 use Rattle.substitute.proofs.read_original.Goals as goal
-
-
-
 
 pub returns-in-Is : goal.returns-in-Is
 returns-in-Is c = sym (ap (mapped (from Original)) (found_is_row (Labelled _) _ _ c.find_labelled.ensures c.in-Is.is))
