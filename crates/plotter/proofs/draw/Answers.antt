@@ -1,34 +1,20 @@
 -- `plotter::draw` meets its contract. The measure is the number of lines that are left; the invariant is `Drawing`, for whatever number
 -- the first row has. No row is missing, so that going on is never refused.
-use Prim.Native.Nat.{ℕ, ◌+◌, ◌-◌, ◌*◌, ◌≤◌, ◌<◌}
+use Prim.Native.Nat.{ℕ, ◌+◌, ◌*◌, ◌≤◌}
 use native.Mathlib.Nat.{le_trans, mul-le-mul_right, add-mul}
 use native.Mathlib.Omega.{arith}
 use mathlib.Core.Path.{◌≡◌, ◌∙◌, sym, ap}
 use mathlib.Core.Bool.{true}
 use mathlib.Core.List.{◌++◌}
 use lib.ListN.{length, take, drop}
-use borrow.Author.Rules.{rules}
 use Rattle.answer.specs.Window.{shown, fits, bytes_at}
 use Rattle.answer.specs.declared.Part.{Part}
 use Rattle.dot_lines.specs.Line.{line_bytes, line}
 use Rattle.plotter.specs.Private.{Starts}
 use Rattle.plotter.proofs.Going.{NextRow, next_row, next_refused}
-use Rattle.plotter.proofs.Drawing.{Drawing, nothing_drawn, one_drawn, same_size, next_fits, none_missing, all_drawn, window_inside}
+use Rattle.plotter.proofs.Drawing.{nothing_drawn, one_drawn, same_size, next_fits, none_missing, all_drawn, window_inside}
 use Rattle.plotter.proofs.draw.Goals as goal
-use Rattle.plotter.proofs.draw.Goals.{At-loop-y, In-Is, In-Refused}
-
--- what is drawn so far, for the first row that is known to be there
-module _ (c : At-loop-y) where
-  so_far : Drawing c.args.kind c.args.file.now c.requires.0.0 c.args.rows c.args.a c.args.c c.args.out.now c.loop-y.out c.loop-y.next c.loop-y.y
-  so_far = c.loop-y.invariant c.requires.0.0 c.requires.0.1
-
-  long : length c.loop-y.out ≡ length c.args.out.now
-  long =
-      let a = c.args in
-      same_size a.kind a.file.now c.requires.0.0 a.rows a.a a.c a.out.now c.loop-y.out c.loop-y.next c.loop-y.y so_far c.requires.2
-
-file_small : (c : At-loop-y) → length c.args.file.now < 18446744073709551616
-file_small c = c.well-formed.1.0.0
+use Rattle.plotter.proofs.draw.Goals.{In-Is, In-Refused}
 
 -- the row that going on came to, whatever the number of the first one, and that the window fits it
 came : (c : In-Is) (first : ℕ) → Starts c.args.kind c.args.file.now first c.args.start
@@ -46,10 +32,7 @@ fitted c =
     let l = c.loop-y in
     let r = came c p.0.0 p.0.1 in
     ap (λ (q : Part). fits q.count a.a a.c) (sym r.part)
-    ∙ next_fits a.kind a.file.now p.0.0 a.rows a.a a.c a.out.now l.out l.next l.y (so_far c.At-loop-y) (p.1 p.0.0 p.0.1).0 (p.1 p.0.0 p.0.1).1 c.loop-y-test.true r.row r.is_row
-
-buffer_small : (c : At-loop-y) → length c.args.out.now < 18446744073709551616
-buffer_small c = c.well-formed.1.1.1.1.1.1.0.0
+    ∙ next_fits a.kind a.file.now p.0.0 a.rows a.a a.c a.out.now l.out l.next l.y (l.invariant p.0.0 p.0.1) (p.1 p.0.0 p.0.1).0 (p.1 p.0.0 p.0.1).1 c.loop-y-test.true r.row r.is_row
 
 -- its window lies in the file, and its line in the buffer
 inside : (c : In-Is) → c.in-Is.row.part.place + c.args.a + c.args.c ≤ length c.args.file.now
@@ -64,53 +47,50 @@ room c =
     let y = c.loop-y.y in
     le_trans (omega (arith, add-mul y 1 (line_bytes a.c))) (le_trans (mul-le-mul_right {m = y + 1} {n = a.rows} (line_bytes a.c) (omega (arith, c.loop-y-test.true))) c.requires.2)
 
-)
-
 -- no row is missing
 never : (c : In-Refused) → ⊥
 never c =
     let a = c.args in
     let p = c.requires in
     let l = c.loop-y in
-    none_missing a.kind a.file.now p.0.0 a.rows a.a a.c a.out.now l.out l.next l.y (so_far c.At-loop-y) (p.1 p.0.0 p.0.1).0 (p.1 p.0.0 p.0.1).1 c.loop-y-test.true _ _
-    (next_refused a.kind a.file.now (p.0.0 + l.y) l.next (so_far c.At-loop-y).going.next _ _ (sym c.row_from.ensures ∙ ap shown c.in-Refused.is))
+    none_missing a.kind a.file.now p.0.0 a.rows a.a a.c a.out.now l.out l.next l.y (l.invariant p.0.0 p.0.1) (p.1 p.0.0 p.0.1).0 (p.1 p.0.0 p.0.1).1 c.loop-y-test.true _ _
+    (next_refused a.kind a.file.now (p.0.0 + l.y) l.next (l.invariant p.0.0 p.0.1).going.next _ _ (sym c.row_from.ensures ∙ ap shown c.in-Refused.is))
 
 pub loop-y-init : goal.loop-y-init
-loop-y-init c =
+loop-y-init c = λ first s.
     let a = c.args in
     nothing_drawn a.kind a.file.now first a.rows a.a a.c a.out.now a.start s
 
-
 pub overflow_add-place : goal.overflow_add-place
-overflow_add-place c = omega (arith, inside (goal.at.overflow_add-place c).In-Is, file_small (goal.at.overflow_add-place c).At-loop-y)
-
+overflow_add-place c = omega (arith, inside (goal.at.overflow_add-place c).In-Is)
 
 pub overflow_mul-y : goal.overflow_mul-y
-overflow_mul-y c = omega (arith, room (goal.at.overflow_mul-y c).In-Is, ap (λ (w : ℕ). c.loop-y.y * w) c.line_bytes-bytes.ensures, buffer_small (goal.at.overflow_mul-y c).At-loop-y)
-
+overflow_mul-y c = omega (arith, room (goal.at.overflow_mul-y c).In-Is, ap (λ (w : ℕ). c.loop-y.y * w) c.line_bytes-bytes.ensures)
 
 pub draw_row-requires : goal.draw_row-requires
-draw_row-requires c = (
-  inside (goal.at.draw_row-requires c).In-Is,
-  omega (arith, room (goal.at.draw_row-requires c).In-Is, ap (λ (w : ℕ). c.loop-y.y * w) c.line_bytes-bytes.ensures, long (goal.at.draw_row-requires c).At-loop-y),
-
+draw_row-requires c =
+    let a = c.args in
+    let p = c.requires in
+    let l = c.loop-y in
+    let long : length l.out ≡ length a.out.now =
+    same_size a.kind a.file.now p.0.0 a.rows a.a a.c a.out.now l.out l.next l.y (l.invariant p.0.0 p.0.1) p.2 in (
+      inside (goal.at.draw_row-requires c).In-Is,
+      omega (arith, room (goal.at.draw_row-requires c).In-Is, ap (λ (w : ℕ). l.y * w) c.line_bytes-bytes.ensures),
+    )
 
 pub overflow_add-next : goal.overflow_add-next
 overflow_add-next c =
     let s = c.requires in
-    omega (arith, (came (goal.at.overflow_add-next c).In-Is s.0.0 s.0.1).inside, file_small (goal.at.overflow_add-next c).At-loop-y)
-
+    omega (arith, (came (goal.at.overflow_add-next c).In-Is s.0.0 s.0.1).inside)
 
 pub overflow_add-y : goal.overflow_add-y
 overflow_add-y c = omega (arith, c.loop-y-test.true, c.ranges.rows)
 
-
 pub loop-y-smaller : goal.loop-y-smaller
 loop-y-smaller c = omega (arith, c.loop-y-test.true)
 
-
 pub loop-y-preserved : goal.loop-y-preserved
-loop-y-preserved c =
+loop-y-preserved c = λ first s.
     let a = c.args in
     let l = c.loop-y in
     let next = c.in-Is.row in
@@ -118,15 +98,11 @@ loop-y-preserved c =
     (c.draw_row.ensures
     ∙ ap (λ (at : ℕ). take at l.out ++ line l.y (bytes_at a.file.now (next.part.place + a.a) a.c) ++ drop (at + line_bytes a.c) l.out) (ap (λ (w : ℕ). l.y * w) c.line_bytes-bytes.ensures))
 
-
-
-
 pub returns-in-Refused : goal.returns-in-Refused
-returns-in-Refused c = absurd (never c)
-
+returns-in-Refused c = λ first s. absurd (never (goal.at.returns-in-Refused c).In-Refused)
 
 pub returns : goal.returns
-returns c =
+returns c = λ first s.
     let a = c.args in
     let p = c.requires in
     let l = c.loop-y in

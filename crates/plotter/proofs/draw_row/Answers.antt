@@ -6,9 +6,7 @@ use lib.ListN.{length, take, drop}
 use Rattle.answer.specs.Filled.{filled}
 use Rattle.dot_lines.specs.Line.{line_into}
 use Rattle.plotter.proofs.Drawing.{line_placed}
-use borrow.Author.Rules.{rules}
 use Rattle.plotter.proofs.draw_row.Goals as goal
-
 
 pub returns : goal.returns
 returns c =

@@ -7,7 +7,6 @@ use mathlib.Core.Path.{◌≡◌, ◌∙◌, sym, ap}
 use mathlib.Core.Logic.{◌↔◌}
 use lib.Dec.{leb}
 use borrow.Author.Tests.{le-leb, lt-leb}
-use borrow.Author.Rules.{rules}
 use Rattle.plotter.proofs.has_room.Goals as goal
 
 -- two comparisons that say the same
@@ -20,7 +19,6 @@ same_test k l m n same =
 
 pub returns-then-bytes-eq0 : goal.returns-then-bytes-eq0
 returns-then-bytes-eq0 c = sym (le-leb (c.args.n * c.args.bytes) c.args.size (omega (arith, ap (λ (w : ℕ). c.args.n * w) c.if-bytes-eq0.true, mul-zero c.args.n)))
-
 
 pub returns : goal.returns
 returns c =

@@ -1,15 +1,8 @@
 -- `plotter::judge` meets its contract. The measure is the number of rows that are left; the invariant is `Judging`, for whatever number
 -- the first row has.
-use Prim.Native.Nat.{ℕ, ◌+◌, ◌-◌}
-use native.Mathlib.Omega.{arith}
-use mathlib.Core.Path.{◌∙◌, sym, ap}
-use mathlib.Core.Bool.{Bool}
-use borrow.Author.Rules.{rules}
-use Rattle.answer.specs.Outcome.{answer, need}
-use Rattle.answer.specs.Window.{shown}
+use Prim.Native.Nat.{ℕ, ◌-◌}
 use Rattle.plotter.specs.Private.{Starts}
-use Rattle.plotter.proofs.Going.{NextRow, next_row, next_refused}
-use Rattle.plotter.proofs.Judging.{Judging, nothing_judged, one_judged, one_refused, all_judged}
+use Rattle.plotter.proofs.Judging.{Judging}
 use Rattle.plotter.proofs.judge.Given as goal
 
 abbrev pub invariant-loop-found : goal.invariant-loop-found

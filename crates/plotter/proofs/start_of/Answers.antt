@@ -9,11 +9,7 @@ use Rattle.reader.specs.Read.{beginning}
 use Rattle.reader.proofs.Found.{row_inside}
 use Rattle.reader.proofs.Rows.{reads_the_rows}
 use Rattle.plotter.specs.Private.{end_of, start_of}
-use borrow.Author.Rules.{rules}
 use Rattle.plotter.proofs.start_of.Goals as goal
-
-
-
 
 pub returns-in-Is : goal.returns-in-Is
 returns-in-Is c =
@@ -26,12 +22,10 @@ returns-in-Refused c =
     let a = c.args in
     sym (ap (start_of a.kind a.file.now) c.if-first-eq0.true ∙ ap (mapped (λ rows. beginning a.kind)) (sym c.check.ensures ∙ ap counted c.in-Refused.is))
 
-
 pub overflow_add-end : goal.overflow_add-end
 overflow_add-end c =
     let a = c.args in
-    omega (arith, row_inside a.kind a.file.now (a.first - 1) c.in-Is-whole_row.row (sym c.whole_row.ensures ∙ ap shown c.in-Is-whole_row.is), c.well-formed.1.0.0)
-
+    omega (arith, row_inside a.kind a.file.now (a.first - 1) c.in-Is-whole_row.row (sym c.whole_row.ensures ∙ ap shown c.in-Is-whole_row.is))
 
 pub returns-in-Is-whole_row : goal.returns-in-Is-whole_row
 returns-in-Is-whole_row c =

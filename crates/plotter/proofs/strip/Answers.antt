@@ -11,7 +11,6 @@ use Rattle.reader.specs.Rows.{check_file}
 use Rattle.plotter.specs.Strip.{strip_into}
 use Rattle.plotter.specs.Private.{Starts}
 use Rattle.plotter.proofs.Starting.{starts, no_start, no_rows, accepted_strip, nothing_written, written_as}
-use borrow.Author.Rules.{rules}
 use Rattle.plotter.proofs.strip.Goals as goal
 use Rattle.plotter.proofs.strip.Goals.{In-Is}
 
@@ -28,12 +27,8 @@ returns-then-rows-eq0 c =
     (nothing_written _ a.out.now (check_file a.kind a.file.now)
     (ap (λ (n : ℕ). strip_into (length a.out.now) a.kind a.file.now a.first n a.a a.c) c.if-rows-eq0.true ∙ no_rows a.kind a.file.now (length a.out.now) a.first a.a a.c))
 
-
 pub strip_from-requires : goal.strip_from-requires
 strip_from-requires c = (c.args.first, begun (goal.at.strip_from-requires c).In-Is)
-
-
-
 
 pub returns-in-Is : goal.returns-in-Is
 returns-in-Is c =

@@ -15,7 +15,6 @@ use Rattle.reader.proofs.Found.{row_inside}
 use Rattle.trace.specs.declared.Dot.{Dot}
 use Rattle.plotter.proofs.Drawing.{window_inside}
 use Rattle.trace.proofs.OneDot.{dot_of_row, dot_refused}
-use borrow.Author.Rules.{rules}
 use Rattle.trace.proofs.behind.Goals as goal
 use Rattle.trace.proofs.behind.Goals.{In-Is, Then-window_fits-x}
 
@@ -30,22 +29,22 @@ both : (c : Then-window_fits-x) → (fits c.in-Is.row.part.count c.args.a c.args
 both c = ap (λ (t : Bool). t && ltb c.args.x c.args.c) (sym c.window_fits.ensures) ∙ c.if-window_fits-x.true
 
 -- so the byte lies in the file
-inside : (c : Then-window_fits-x) → c.in-Is.row.part.place + c.args.a + c.args.x < length c.args.file.now
-inside c =
+inside : (c : Then-window_fits-x) → find_row c.args.kind c.args.file.now (c.args.first + c.args.y) ≡ answer c.in-Is.row
+    → c.in-Is.row.part.place + c.args.a + c.args.x < length c.args.file.now
+inside c there =
     let a = c.args in
     let row = c.in-Is.row in
     let (fit, column) = both_hold (fits row.part.count a.a a.c) (ltb a.x a.c) (both c) in
-    omega (arith, window_inside a.file.now row a.a a.c (row_inside a.kind a.file.now (a.first + a.y) row (found c.In-Is)) fit, ltb-true a.x a.c column)
-
+    omega (arith, window_inside a.file.now row a.a a.c (row_inside a.kind a.file.now (a.first + a.y) row there) fit, ltb-true a.x a.c column)
 
 pub overflow_add-place : goal.overflow_add-place
-overflow_add-place c = omega (arith, inside (goal.at.overflow_add-place c).Then-window_fits-x, c.well-formed.1.0.0)
+overflow_add-place c = omega (arith, inside (goal.at.overflow_add-place c).Then-window_fits-x (found (goal.at.overflow_add-place c).In-Is))
 
 pub overflow_add-place-then-window_fits-x : goal.overflow_add-place-then-window_fits-x
-overflow_add-place-then-window_fits-x c = omega (arith, inside (goal.at.overflow_add-place-then-window_fits-x c).Then-window_fits-x, c.well-formed.1.0.0)
+overflow_add-place-then-window_fits-x c = omega (arith, inside (goal.at.overflow_add-place-then-window_fits-x c).Then-window_fits-x (found (goal.at.overflow_add-place-then-window_fits-x c).In-Is))
 
 pub bounds-file-place : goal.bounds-file-place
-bounds-file-place c = inside (goal.at.bounds-file-place c).Then-window_fits-x
+bounds-file-place c = inside (goal.at.bounds-file-place c).Then-window_fits-x (found (goal.at.bounds-file-place c).In-Is)
 
 pub returns-then-window_fits-x : goal.returns-then-window_fits-x
 returns-then-window_fits-x c =
@@ -56,7 +55,6 @@ returns-then-window_fits-x c =
     ap (λ (s : Bool). answer (dot place byte c.tone-tone.result s)) c.is_dot-set.ensures
     ∙ ap (λ (t : ℕ). answer (dot place byte t (is_dot t a.x a.y))) c.tone-tone.ensures
     ∙ sym (dot_of_row a.kind a.file.now a.first a.a a.c a.x a.y row (found (goal.at.returns-then-window_fits-x c).In-Is) true (both (goal.at.returns-then-window_fits-x c).Then-window_fits-x))
-
 
 pub returns-else-window_fits-x : goal.returns-else-window_fits-x
 returns-else-window_fits-x c =

@@ -4,18 +4,14 @@ use native.Mathlib.Omega.{arith}
 use mathlib.Core.Path.{◌∙◌, sym, ap}
 use Rattle.answer.specs.Counted.{counted}
 use Rattle.trace.proofs.OneDot.{past_the_last, of_a_refused_file}
-use borrow.Author.Rules.{rules}
 use Rattle.trace.proofs.row_of_line.Goals as goal
-
-
-
 
 pub returns-in-Is : goal.returns-in-Is
 returns-in-Is c =
     let a = c.args in
     c.no_row.ensures.0
     ∙ sym (past_the_last a.kind a.file.now c.in-Is.rows (a.first + a.y) (sym c.check.ensures ∙ ap counted c.in-Is.is)
-    (omega (arith, c.no_row.ensures.1, c.if-first-y.true, c.ranges.first)))
+    (omega (arith, c.no_row.ensures.1, c.if-first-y.true)))
 
 pub returns-in-Refused : goal.returns-in-Refused
 returns-in-Refused c =
