@@ -1,7 +1,7 @@
 /*
  * crestulbino.h: labelled radar files, waveform files and short burst files, from C11 and C++17.
  *
- * Link with target/staticlib/libcapi.a, which `tools/archive` proves and builds (x86-64).
+ * Link with target/staticlib/libcapi.a, which `tools/archive` proves and builds (x86-64-v2).
  *
  * Every call takes any bytes and any numbers. It answers, or it gives one refusal: a number and a place. On a refusal it has
  * written nothing, neither to lent memory nor through a pointer. On an answer it has written every number that it has a pointer
