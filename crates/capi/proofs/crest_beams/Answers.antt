@@ -2,11 +2,7 @@
 use mathlib.Core.Path.{◌∙◌, sym, ap}
 use Rattle.burst_codes.specs.Beams.{MaskVerdict, beams_in, verdict_in}
 use Rattle.hand.specs.Parts.{side_number, beams_handed}
-use borrow.Author.Rules.{rules}
 use Rattle.capi.proofs.crest_beams.Goals as goal
-
-
-
 
 pub returns-in-Inside : goal.returns-in-Inside
 returns-in-Inside c =

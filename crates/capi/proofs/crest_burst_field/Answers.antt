@@ -3,11 +3,7 @@ use mathlib.Core.Path.{◌∙◌, sym, ap}
 use Rattle.answer.specs.Outcome.{mapped}
 use Rattle.hand.specs.Parts.{in_numbers, told}
 use Rattle.hand.proofs.Handing.{answered_result, answered_part, refused_result, refused_part}
-use borrow.Author.Rules.{rules}
 use Rattle.capi.proofs.crest_burst_field.Goals as goal
-
-
-
 
 pub returns-in-Is : goal.returns-in-Is
 returns-in-Is c =

@@ -1,7 +1,6 @@
 -- `capi::crest_check_index` meets its contract: by what `check_index` answered.
 use mathlib.Core.Path.{◌∙◌, ap}
 use Rattle.hand.specs.Handed.{result_of}
-use borrow.Author.Rules.{rules}
 use Rattle.capi.proofs.crest_check_index.Goals as goal
 
 pub returns : goal.returns

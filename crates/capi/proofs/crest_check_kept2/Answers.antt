@@ -1,7 +1,6 @@
 -- `capi::crest_check_kept2` meets its contract: by what the check of kind 2 answered.
 use mathlib.Core.Path.{◌∙◌, ap}
 use Rattle.hand.specs.Handed.{result_of}
-use borrow.Author.Rules.{rules}
 use Rattle.capi.proofs.crest_check_kept2.Goals as goal
 
 pub returns : goal.returns

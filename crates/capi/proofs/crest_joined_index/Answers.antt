@@ -3,12 +3,10 @@ use mathlib.Core.Path.{◌∙◌, ap}
 use Rattle.answer.specs.Outcome.{Outcome}
 use Rattle.row_index.specs.declared.Built.{Built}
 use Rattle.hand.specs.Handed.{result_of, handed}
-use borrow.Author.Rules.{rules}
 use Rattle.capi.proofs.crest_joined_index.Goals as goal
-
 
 pub returns : goal.returns
 returns c =
     let a = c.args in
     let told = rw c.choice.ensures at c.join_index.ensures in
-    let e = c.indexed.ensures in record { value = e.0 ∙ ap result_of told.0; list_after = told.1; entries_after = e.1.0 ∙ ap (λ (o : Outcome Built). handed (λ b. b.entries) o a.entries.now) told.0; rows_after = e.1.1 ∙ ap (λ (o : Outcome Built). handed (λ b. b.rows) o a.rows.now) told.0 }
+    let e = c.indexed.ensures in record { value = e.value ∙ ap result_of told.answers; list_after = told.leaves; entries_after = e.entries_after ∙ ap (λ (o : Outcome Built). handed (λ b. b.entries) o a.entries.now) told.answers; rows_after = e.rows_after ∙ ap (λ (o : Outcome Built). handed (λ b. b.rows) o a.rows.now) told.answers }

@@ -2,21 +2,14 @@
 use mathlib.Core.Path.{◌∙◌, sym, ap}
 use Rattle.kept_rows.specs.Kind2.{loaded}
 use Rattle.hand.proofs.Handing.{answered_result, answered_part, refused_result, refused_part}
-use borrow.Author.Rules.{rules}
 use Rattle.capi.proofs.crest_load_kept2.Goals as goal
-
-
-
-
-
 
 pub returns-in-Is : goal.returns-in-Is
 returns-in-Is c =
     let told = c.load.ensures in
-    let e = sym told.0 ∙ ap loaded c.in-Is.is in record { value = answered_result e; list_after = told.1; rows_after = answered_part _ _ e; entries_after = answered_part _ _ e }
-
+    let e = sym told.answers ∙ ap loaded c.in-Is.is in record { value = answered_result e; list_after = told.leaves; rows_after = answered_part _ _ e; entries_after = answered_part _ _ e }
 
 pub returns-in-Refused : goal.returns-in-Refused
 returns-in-Refused c =
     let told = c.load.ensures in
-    let e = sym told.0 ∙ ap loaded c.in-Refused.is in record { value = c.refused.ensures ∙ refused_result e; list_after = told.1; rows_after = refused_part _ _ e; entries_after = refused_part _ _ e }
+    let e = sym told.answers ∙ ap loaded c.in-Refused.is in record { value = c.refused.ensures ∙ refused_result e; list_after = told.leaves; rows_after = refused_part _ _ e; entries_after = refused_part _ _ e }

@@ -2,25 +2,7 @@
 use mathlib.Core.Path.{◌∙◌, sym, ap}
 use Rattle.burst_codes.specs.Modes.{mode_number}
 use Rattle.hand.specs.Parts.{mode_handed}
-use borrow.Author.Rules.{rules}
 use Rattle.capi.proofs.crest_mode.Goals as goal
-
-
-
-
-
-
-
-
-
-
-
-
-
-
-
-
-
 
 pub returns-in-Baq8To2 : goal.returns-in-Baq8To2
 returns-in-Baq8To2 c = ap mode_handed (sym (sym c.mode.ensures ∙ ap mode_number c.in-Baq8To2.is))

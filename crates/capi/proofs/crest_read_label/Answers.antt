@@ -4,11 +4,7 @@ use Rattle.label.specs.declared.Label.{Label}
 use Rattle.label.specs.Version.{version_number}
 use Rattle.label.specs.Label.{told}
 use Rattle.hand.proofs.Handing.{answered_result, answered_part, refused_result, refused_part}
-use borrow.Author.Rules.{rules}
 use Rattle.capi.proofs.crest_read_label.Goals as goal
-
-
-
 
 pub returns-in-Is : goal.returns-in-Is
 returns-in-Is c =

@@ -1,6 +1,7 @@
 -- `capi::crest_read_row_labelled` meets its contract: `hand::row` hands over what `reader::read_row` promises.
-use borrow.Author.Rules.{rules}
 use Rattle.capi.proofs.crest_read_row_labelled.Goals as goal
 
 pub returns : goal.returns
-returns c = rw (c.read_row.ensures, c.choice.ensures) at c.row.ensures
+returns c =
+    let told = rw (c.read_row.ensures, c.choice.ensures) at c.row.ensures in
+    record { value = told.value; shown_after = told.numbers_after }

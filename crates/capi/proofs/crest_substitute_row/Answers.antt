@@ -4,11 +4,7 @@ use Rattle.label.specs.declared.Versions.{Versions}
 use Rattle.substitute.specs.Chosen.{chosen}
 use Rattle.substitute.specs.Substitute.{read_either}
 use Rattle.hand.proofs.Handing.{answered_result, answered_part, refused_result, refused_part}
-use borrow.Author.Rules.{rules}
 use Rattle.capi.proofs.crest_substitute_row.Goals as goal
-
-
-
 
 pub returns-in-Is : goal.returns-in-Is
 returns-in-Is c =

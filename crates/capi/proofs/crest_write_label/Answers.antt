@@ -10,7 +10,6 @@ use Rattle.label.specs.declared.Version.{Version}
 use Rattle.label_writer.specs.Write.{write_label}
 use Rattle.hand.specs.Numbers.{numbered_version, version_read, write_numbered}
 use Rattle.hand.proofs.Handing.{refused_result, refused_part, written_and_handed}
-use borrow.Author.Rules.{rules}
 use Rattle.capi.proofs.crest_write_label.Goals as goal
 
 -- with a number that a version has, the writer told that version; else refused
@@ -26,17 +25,13 @@ module _ (number : ℕ) (head : List ℕ) (n room : ℕ) where
 writes_as : {x y : Outcome (List ℕ)} {old new : List ℕ} {o : Outcome ℕ} → x ≡ y → Writes y old o new → Writes x old o new
 writes_as {x} {y} {old} {new} {o} e w = subst (λ (z : Outcome (List ℕ)). Writes z old o new) (sym e) w
 
-
-
-
-
-
 pub returns-in-Is : goal.returns-in-Is
 returns-in-Is c =
     let a = c.args in
     let e = sym c.version_with.ensures ∙ ap version_read c.in-Is.is in
     let is = told_version a.version a.head.now a.length (length a.out.now) _ e in
-    written_and_handed _ (writes_as is c.write_label.ensures) c.count.ensures
+    let all = written_and_handed _ (writes_as is c.write_label.ensures) (c.count.ensures.value, c.count.ensures.number_after) in
+    record { value = all.0; out_after = all.1.0; written_after = all.1.1 }
 
 pub returns-in-Refused : goal.returns-in-Refused
 returns-in-Refused c =

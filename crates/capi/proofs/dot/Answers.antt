@@ -4,14 +4,10 @@ use mathlib.Core.Path.{◌≡◌, ◌∙◌, ap}
 use mathlib.Core.List.{[], ◌∷◌}
 use Rattle.trace.specs.Behind.{traced}
 use Rattle.hand.proofs.Handing.{answered_result, answered_part, refused_result, refused_part}
-use borrow.Author.Rules.{rules}
 use Rattle.capi.proofs.dot.Goals as goal
 
 same_numbers : {v v' t t' s s' : ℕ} (place : ℕ) → v ≡ v' → t ≡ t' → s ≡ s' → place ∷ v ∷ t ∷ s ∷ [] ≡ place ∷ v' ∷ t' ∷ s' ∷ []
 same_numbers place p q r = cc
-
-
-
 
 pub returns-in-Is : goal.returns-in-Is
 returns-in-Is c =

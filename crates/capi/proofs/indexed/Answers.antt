@@ -2,11 +2,7 @@
 use mathlib.Core.Path.{◌∙◌, ap}
 use Rattle.row_index.specs.Index.{built}
 use Rattle.hand.proofs.Handing.{answered_result, answered_part, refused_result, refused_part}
-use borrow.Author.Rules.{rules}
 use Rattle.capi.proofs.indexed.Goals as goal
-
-
-
 
 pub returns-in-Is : goal.returns-in-Is
 returns-in-Is c =

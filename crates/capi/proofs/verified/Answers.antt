@@ -2,11 +2,7 @@
 use mathlib.Core.Path.{◌∙◌, ap}
 use Rattle.row_index.specs.Index.{accepted}
 use Rattle.hand.proofs.Handing.{answered_result, refused_result}
-use borrow.Author.Rules.{rules}
 use Rattle.capi.proofs.verified.Goals as goal
-
-
-
 
 pub returns-in-Right : goal.returns-in-Right
 returns-in-Right c = answered_result (ap accepted c.in-Right.is)
