@@ -34,8 +34,8 @@ DECL = [
     re.compile(r"^\s*(?:abbrev |unfoldable )?(?:pub )?(?:abbrev |unfoldable )?([^\W\d][\w'-]*(?: [^\W\d][\w'-]*)*) :(?= |$)", re.M),
     re.compile(r"^\s*(?:pub )?(?:record|data) ([^\W\d][\w'-]*)", re.M),
 ]
-# Lemmas that would fall together with a definition in the same file.
-LEMMAS = {"is-kept": "is_kept_lem"}
+# A lemma that would fall together with a definition in the same file, and names with the letter of a number's format.
+BY_HAND = {"is-kept": "is_kept_lem", "vaxDDropped": "vax_D_dropped", "vaxDDropped-exact": "vax_D_dropped_exact"}
 
 
 def crates(root):
@@ -47,8 +47,8 @@ def crates(root):
 
 
 def snake(name):
-    if name in LEMMAS:
-        return LEMMAS[name]
+    if name in BY_HAND:
+        return BY_HAND[name]
     if name[0].isupper():
         return name
     parts = re.sub(r"(?<=[a-z0-9])(?=[A-Z])", "-", name).split("-")

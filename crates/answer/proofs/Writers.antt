@@ -3,11 +3,11 @@ use Prim.Native.Nat.{ℕ, suc, ◌+◌, ◌-◌, ◌≤◌, ◌<◌, zero-le}
 use native.Mathlib.Nat.{le_of_eq}
 use native.Mathlib.Omega.{arith}
 use mathlib.Core.Path.{◌≡◌, refl, ◌∙◌, sym, ap, ap₂}
-use mathlib.Core.List.{List, ◌∷◌, ◌++◌, append_assoc, append-nil}
+use mathlib.Core.List.{List, [], ◌∷◌, ◌++◌, append_assoc, append-nil}
 use lib.ListN.{length, get_or, set, take, drop, length-append, length-drop, drop_of_length-le}
 use native.Mathlib.Numerals.{add-one}
 use lib.Seq.{take-length, take_at, drop_at, drop-drop, drop-cons, take-suc, set_at, append_snoc, length-take-le}
-use borrow.Rule.Slice.PartMut.{put_mid}
+use borrow.Rule.Slice.PartMut.{put_mid, post_of}
 use Rattle.answer.specs.Outcome.{Outcome, answer, refuse}
 use Rattle.answer.proofs.Parts.{all_that_is_left}
 use Rattle.answer.specs.Filled.{Writes, amount, filled}
@@ -50,11 +50,14 @@ module _ (w ys old front back : List ℕ) (n : ℕ) (h : length w ≡ n) (room :
 
   pub two_pieces : put_mid n (length front - n) front back ≡ (w ++ ys) ++ drop (length (w ++ ys)) old
   two_pieces =
-      put_behind n front back
-      ∙ ap₂ (λ (a b : List ℕ). a ++ b) (ap (take n) front_is ∙ take_at w (drop n old) n h) back_is
+      ap₂ (λ (a b : List ℕ). a ++ b) (ap (take n) front_is ∙ take_at w (drop n old) n h)
+      (ap₂ ◌++◌ back_is nothing_after ∙ append-nil (ys ++ drop (n + length ys) old))
       ∙ sym (append_assoc w ys (drop (n + length ys) old))
       ∙ ap (λ (k : ℕ). (w ++ ys) ++ drop k old) both
     where
+      nothing_after : post_of n (length front - n) front ≡ []
+      nothing_after = drop_of_length-le (drop n front) {i = length front - n} (le_of_eq (length-drop n front))
+
       both : n + length ys ≡ length (w ++ ys)
       both = omega (arith, length-append w ys)
 

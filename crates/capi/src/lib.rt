@@ -27,7 +27,7 @@ ghost use Rattle.kept.specs.Kept.{keep_index, load_kept};
 ghost use Rattle.kept_rows.specs.Kind2.{list_of, loaded_of, load_kept2, to_kind1};
 ghost use Rattle.kept_check.specs.Check.{to_kind2, check_kept2};
 ghost use Rattle.waveform.specs.Sample.{twice_amplitude};
-ghost use Rattle.vax.specs.Numbers.{vax_F, vax_D, vax_ddropped};
+ghost use Rattle.vax.specs.Numbers.{vax_F, vax_D, vax_D_dropped};
 ghost use Rattle.orbit.specs.Opening.{per_orbit_opening};
 ghost use Rattle.verdicts.specs.Verdict.{verdict_of};
 ghost use Rattle.burst_fields.specs.Fields.{field_of, field_verdict};
@@ -700,8 +700,8 @@ pub extern "C" fn crest_vax_d(bytes: &[u8], number: &mut f64) -> Result
 // The VAX D number in the first 8 bytes, its three lowest fraction bits dropped.
 #[unsafe(no_mangle)]
 pub extern "C" fn crest_vax_d_dropped(bytes: &[u8], number: &mut f64) -> Result
-    ensures value { result ≡ result_of (vax_ddropped bytes.now) }
-    ensures number_after { number.new ≡ handed (λ x. x) (vax_ddropped bytes.now) number.old }
+    ensures value { result ≡ result_of (vax_D_dropped bytes.now) }
+    ensures number_after { number.new ≡ handed (λ x. x) (vax_D_dropped bytes.now) number.old }
 {
     hand::float(vax::vax_d_dropped(bytes), number)
 }

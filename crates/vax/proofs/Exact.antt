@@ -8,7 +8,7 @@ use mathlib.Core.List.{List}
 use lib.Ieee.{Float}
 use lib.Ieee.Exact.{HasValue, odd_sign}
 use Rattle.vax.specs.Fields.{negative, exponent, mantissa_F, dropped_mantissa_D}
-use Rattle.vax.specs.Numbers.{zero_float, exact_F, dropped_D, reading, vax_F, vax_ddropped}
+use Rattle.vax.specs.Numbers.{zero_float, exact_F, dropped_D, reading, vax_F, vax_D_dropped}
 use Rattle.vax.specs.Exact.{Exactly, ExactF, ExactDroppedD}
 use Rattle.vax.proofs.Cases.{reading_has}
 
@@ -24,5 +24,5 @@ reading_exact size x s mantissa l v =
 pub vax_F_exact : (s : List ℕ) → ExactF s (vax_F s)
 vax_F_exact s = reading_exact 4 (exact_F s) s (mantissa_F s) 152 (odd_sign 24 (negative s) (mantissa_F s) (exponent s) 152)
 
-pub vax_ddropped_exact : (s : List ℕ) → ExactDroppedD s (vax_ddropped s)
-vax_ddropped_exact s = reading_exact 8 (dropped_D s) s (dropped_mantissa_D s) 184 (odd_sign 56 (negative s) (dropped_mantissa_D s) (exponent s) 184)
+pub vax_D_dropped_exact : (s : List ℕ) → ExactDroppedD s (vax_D_dropped s)
+vax_D_dropped_exact s = reading_exact 8 (dropped_D s) s (dropped_mantissa_D s) 184 (odd_sign 56 (negative s) (dropped_mantissa_D s) (exponent s) 184)

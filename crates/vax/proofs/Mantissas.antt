@@ -9,7 +9,7 @@ use lib.ListN.{length}
 use lib.Ieee.{Float, odd}
 use lib.Ieee.Nearest.{closest}
 use Rattle.vax.specs.Fields.{sign_of, negative, exponent, fraction_D, mantissa_F, mantissa_D}
-use Rattle.vax.specs.Numbers.{by_exponent, exact_F, nearest_D, dropped_D, vax_F, vax_D, vax_ddropped}
+use Rattle.vax.specs.Numbers.{by_exponent, exact_F, nearest_D, dropped_D, vax_F, vax_D, vax_D_dropped}
 use Rattle.vax.specs.Private.{patterned, below_sign_F, below_sign_D, BitsF, BitsD}
 use Rattle.vax.proofs.Scaled.{odd_shifted}
 use Rattle.vax.proofs.Patterns.{read_as}
@@ -51,5 +51,5 @@ module _ (s : List ℕ) where
   pub from-D : (b : ℕ) → b ≡ below_sign_D s → BitsD s → 8 ≤ length s → by_exponent (patterned (closest b 8) s) s ≡ vax_D s
   from-D b e bits h = rw e (ap (λ (x : Float). by_exponent x s) (to_nearest bits) ∙ sym (long_enough (nearest_D s) s 8 h))
 
-  pub from-D-dropped : (b : ℕ) → b ≡ below_sign_D s → BitsD s → 8 ≤ length s → by_exponent (patterned (b / 8) s) s ≡ vax_ddropped s
+  pub from-D-dropped : (b : ℕ) → b ≡ below_sign_D s → BitsD s → 8 ≤ length s → by_exponent (patterned (b / 8) s) s ≡ vax_D_dropped s
   from-D-dropped b e bits h = rw e (ap (λ (x : Float). by_exponent x s) (three_fewer bits) ∙ sym (long_enough (dropped_D s) s 8 h))

@@ -6,7 +6,7 @@ use Rattle.std.specs.Float.Ieee.Exact.{HasValue}
 use Rattle.answer.specs.Outcome.{Outcome, answer, refuse}
 use Rattle.rounding.specs.Nearest.{apart, TheNearest, NextToZero}
 use Rattle.vax.specs.Fields.{negative, exponent, mantissa_D}
-use Rattle.vax.specs.Numbers.{vax_D, vax_ddropped}
+use Rattle.vax.specs.Numbers.{vax_D, vax_D_dropped}
 
 -- a number in last places: none for zero, which has the exponent 0
 abbrev pub last_places : List ℕ → ℕ
@@ -35,4 +35,4 @@ OneStep (refuse n p) (refuse m q) = (n ≡ m) × (p ≡ q)
 
 -- the dropped form and the nearest, of any bytes
 abbrev pub OneStepD : List ℕ → Type 0
-OneStepD s = ((i : ℕ) → get_or s i 0 < 256) → OneStep (vax_ddropped s) (vax_D s)
+OneStepD s = ((i : ℕ) → get_or s i 0 < 256) → OneStep (vax_D_dropped s) (vax_D s)

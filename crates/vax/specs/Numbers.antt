@@ -40,5 +40,5 @@ abbrev pub vax_D : List ℕ → Outcome Float
 vax_D s = reading 8 (nearest_D s) s
 
 -- document 02, item 5: "the dropped form under its own name for old jobs", as document 01 has it
-abbrev pub vax_ddropped : List ℕ → Outcome Float
-vax_ddropped s = reading 8 (dropped_D s) s
+abbrev pub vax_D_dropped : List ℕ → Outcome Float
+vax_D_dropped s = reading 8 (dropped_D s) s

@@ -7,7 +7,7 @@ ghost use Rattle.std.specs.Prelude.{◌≡◌, ◌+◌, ◌*◌, ◌/◌, ◌^�
 ghost use Rattle.std.specs.Float.Ieee.Nearest.{closest};
 ghost use Rattle.vax.specs.Decoded.{decoded};
 ghost use Rattle.vax.specs.Fields.{word_at};
-ghost use Rattle.vax.specs.Numbers.{by_exponent, vax_F, vax_D, vax_ddropped};
+ghost use Rattle.vax.specs.Numbers.{by_exponent, vax_F, vax_D, vax_D_dropped};
 ghost use Rattle.vax.specs.Exact.{ExactF, ExactDroppedD};
 ghost use Rattle.vax.specs.Nearest.{NearestD};
 ghost use Rattle.vax.specs.Private.{patterned, below_sign_F, below_sign_D, BitsF, BitsD};
@@ -119,7 +119,7 @@ pub fn vax_d(bytes: &[u8]) -> Decode
 // The D number in the first 8 bytes, its three lowest fraction bits dropped and the rest exact, for old
 // jobs: `exact` says what the float is over whole numbers.
 pub fn vax_d_dropped(bytes: &[u8]) -> Decode
-    ensures result_value { decoded result ≡ vax_ddropped bytes.now }
+    ensures result_value { decoded result ≡ vax_D_dropped bytes.now }
     ensures exact { ExactDroppedD bytes.now (decoded result) }
 {
     if bytes.len() < 8 {

@@ -5,7 +5,7 @@ use mathlib.Core.Path.{◌≡◌, refl, ◌∙◌, sym, ap}
 use mathlib.Core.List.{◌++◌}
 use lib.ListN.{length, take, drop}
 use lib.Seq.{length-take-le}
-use Rattle.listing.proofs.Putting.{put_between}
+use Rattle.listing.proofs.Putting.{part_put}
 use Rattle.listing.proofs.put.Goals as goal
 
 pub returns : goal.returns
@@ -18,6 +18,6 @@ returns c =
     record {
       ends = ap (λ (k : ℕ). a.at + k) (sym is);
       leaves =
-          put_between old piece c.copy_from_slice.new.self (length old) a.at size refl (omega (arith, is, c.requires.size_in_bounds)) c.copy_from_slice.ensures.after (sym is)
+          part_put old piece c.copy_from_slice.new.self (length old) a.at size refl (omega (arith, is, c.requires.size_in_bounds)) c.copy_from_slice.ensures.after (sym is)
           ∙ ap (λ (k : ℕ). take a.at old ++ (piece ++ drop (a.at + k) old)) is;
     }

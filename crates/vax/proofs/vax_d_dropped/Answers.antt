@@ -3,25 +3,25 @@ use Prim.Native.Nat.{ℕ}
 use mathlib.Core.Path.{◌∙◌, sym, ap}
 use Rattle.answer.specs.Outcome.{refuse}
 use Rattle.vax.specs.Decoded.{decoded}
-use Rattle.vax.specs.Numbers.{by_exponent, dropped_D, vax_ddropped}
+use Rattle.vax.specs.Numbers.{by_exponent, dropped_D, vax_D_dropped}
 use Rattle.vax.specs.Private.{patterned}
 use Rattle.vax.specs.Exact.{ExactDroppedD}
 use Rattle.vax.proofs.Cases.{too_short, both_clauses}
 use Rattle.vax.proofs.Mantissas.{from-D-dropped}
-use Rattle.vax.proofs.Exact.{vax_ddropped_exact}
+use Rattle.vax.proofs.Exact.{vax_D_dropped_exact}
 use Rattle.vax.proofs.vax_d_dropped.Goals as goal
 
 pub returns-then-bytes-lt8 : goal.returns-then-bytes-lt8
 returns-then-bytes-lt8 c =
     let s = c.args.bytes.now in
-    let both = both_clauses (ExactDroppedD s) (vax_ddropped s) (vax_ddropped_exact s) (refuse 1 0) (sym (too_short (dropped_D s) s 8 c.if-bytes-lt8.true)) in
+    let both = both_clauses (ExactDroppedD s) (vax_D_dropped s) (vax_D_dropped_exact s) (refuse 1 0) (sym (too_short (dropped_D s) s 8 c.if-bytes-lt8.true)) in
     record { result_value = both.0; exact = both.1 }
 
 pub returns : goal.returns
 returns c =
     let bits = c.bits_d in
     let s = c.args.bytes.now in
-    let both = both_clauses (ExactDroppedD s) (vax_ddropped s) (vax_ddropped_exact s) (decoded c.number.result)
+    let both = both_clauses (ExactDroppedD s) (vax_D_dropped s) (vax_D_dropped_exact s) (decoded c.number.result)
     (c.number.ensures
     ∙ ap (λ (q : ℕ). by_exponent (patterned q s) s) c.dropped_eighth.ensures
     ∙ from-D-dropped s bits.result bits.ensures.0 bits.ensures.1 c.if-bytes-lt8.false) in
