@@ -1,13 +1,13 @@
 // Reading a file through a reader into lent memory. What the bytes mean is left to the crates above.
 //
-// No contract can say what a file gives: that of `read` bounds the number that is answered and, where a reader's bytes are not known,
-// says nothing of them. Promised is what holds whatever is given: `size` is at most the memory's length, the memory keeps its length,
-// and `failed` is set only where room is left. Free otherwise are `size`, `failed` and every byte of the memory, those read and those
-// after them.
+// No contract can say what a file gives, so of a file's bytes nothing is promised but how many are said to be read. Of a reader whose
+// bytes are known, one over memory, it is promised which of them stand where. Free otherwise are the bytes of the memory after those
+// that were read.
 #![tactic(auto)]
 
-ghost use Rattle.std.specs.Prelude.{◌≡◌, true, ◌<◌, length};
+ghost use Rattle.std.specs.Prelude.{◌≡◌, true, false, ◌<◌, length, take};
 ghost use Rattle.std.specs.Counts.{IsPrefixLen};
+ghost use Rattle.std.specs.Io.KnownBytes.{Consumes, IsAtEnd};
 
 use std::io::Read;
 
@@ -18,13 +18,14 @@ pub struct Input {
     pub failed: bool,
 }
 
-// Reads until the memory is full, the file ends or a read fails. That the file's next `size` bytes then
-// stand at the memory's front, and that `failed` tells a read that failed from the file's end, is how
-// the code is written and no promise.
+// Reads until the memory is full, the file ends or a read fails. Of a reader whose bytes are known, those that it gave stand at the
+// memory's front, in order, and those after them are left to it; where no read failed and room is left, none is.
 pub fn read_up_to<R: Read>(reader: &mut R, memory: &mut [u8]) -> Input
     ensures prefix_len { IsPrefixLen result.size memory.new }
     ensures keeps { length memory.new ≡ length memory.old }
     ensures room { result.failed ≡ true → result.size < length memory.new }
+    ensures bytes { Consumes (R.remaining reader.old) (R.remaining reader.new) (take result.size memory.new) }
+    ensures end { result.failed ≡ false → result.size < length memory.new → IsAtEnd (R.remaining reader.new) }
 {
     let mut done: usize = 0;
     while done < memory.len() {
