@@ -1,14 +1,13 @@
 -- When two answers are the same: an answer and itself, and an answer and what is left of it without its depth.
-use Prim.Native.Nat.{ℕ}
+use Rattle.std.specs.Prelude.{ℕ, Option, Some, None}
 use mathlib.Core.Path.{refl}
-use mathlib.Core.Option.{Option, none, some}
 use Rattle.answer.specs.Outcome.{Outcome, answer, refuse, mapped}
 use Rattle.answer.specs.Address.{without_depth, label_in, depth_in, outermost_in, SameWhereBoth, SameAnswer}
 use Rattle.answer.specs.declared.Shown.{Shown}
 
 same_as_itself : (o : Option ℕ) → SameWhereBoth o o
-same_as_itself (some x) = refl
-same_as_itself none = tt
+same_as_itself (Some x) = refl
+same_as_itself None = tt
 
 pub same_answer : (o : Outcome Shown) → SameAnswer o o
 same_answer (answer x) = record {

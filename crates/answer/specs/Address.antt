@@ -1,10 +1,8 @@
 -- A row's address (document 02, item 8: "The record a row is answered in gains the place of its label, its depth, and the place of the
 -- outermost object it lies in (itself at depth 1)"), and when two answers are the same.
-use Rattle.std.specs.Prelude.{ℕ, ◌≡◌}
-use Rattle.std.proofs.Math.Option.{Option, none, some}
+use Rattle.std.specs.Prelude.{ℕ, ◌≡◌, Option, Some, None}
 use Rattle.answer.specs.Outcome.{Outcome, answer, refuse}
 use Rattle.answer.specs.declared.Nesting.{Nesting}
-use Rattle.answer.specs.declared.Nesting.TheVariants.{Known, Absent}
 use Rattle.answer.specs.declared.Address.{Address}
 use Rattle.answer.specs.declared.Shown.{Shown}
 
@@ -12,24 +10,24 @@ use Rattle.answer.specs.declared.Shown.{Shown}
 abbrev pub unlabelled : (place count : ℕ) → Shown
 unlabelled place count = record {
   part = record { place = place; count = count };
-  address = record { label = place; nesting = Known 0 place };
+  address = record { label = place; nesting = Some (record { depth = 0; outermost = place }) };
 }
 
 -- a row as it is known to who keeps no depth ("it fills only the label's place and says that the other two are absent")
 abbrev pub without_depth : Shown → Shown
-without_depth s = record { part = s.part; address = record { label = s.address.label; nesting = Absent } }
+without_depth s = record { part = s.part; address = record { label = s.address.label; nesting = None } }
 
 -- the three parts of an address, each filled or absent
 abbrev pub label_in : Address → Option ℕ
-label_in a = some a.label
+label_in a = Some a.label
 
-abbrev pub depth_of : Nesting → Option ℕ
-depth_of (Known depth outermost) = some depth
-depth_of Absent = none
+abbrev pub depth_of : Option Nesting → Option ℕ
+depth_of (Some nesting) = Some nesting.depth
+depth_of None = None
 
-abbrev pub outermost_of : Nesting → Option ℕ
-outermost_of (Known depth outermost) = some outermost
-outermost_of Absent = none
+abbrev pub outermost_of : Option Nesting → Option ℕ
+outermost_of (Some nesting) = Some nesting.outermost
+outermost_of None = None
 
 abbrev pub depth_in : Address → Option ℕ
 depth_in a = depth_of a.nesting
@@ -39,18 +37,18 @@ outermost_in a = outermost_of a.nesting
 
 -- a part is filled, or it is absent
 abbrev pub IsFilled : Option ℕ → Type 0
-IsFilled (some x) = Unit
-IsFilled none = ⊥
+IsFilled (Some x) = Unit
+IsFilled None = ⊥
 
 abbrev pub IsAbsent : Option ℕ → Type 0
-IsAbsent (some x) = ⊥
-IsAbsent none = Unit
+IsAbsent (Some x) = ⊥
+IsAbsent None = Unit
 
 -- "the parts that both fill" are the same: a part that is absent on one side is not compared
 abbrev pub SameWhereBoth : Option ℕ → Option ℕ → Type 0
-SameWhereBoth (some x) (some y) = x ≡ y
-SameWhereBoth (some x) none = Unit
-SameWhereBoth none y = Unit
+SameWhereBoth (Some x) (Some y) = x ≡ y
+SameWhereBoth (Some x) None = Unit
+SameWhereBoth None y = Unit
 
 -- two rows that are shown: the same part of the file, and an address that is the same in the parts that both fill
 pub record SameRow (x y : Shown) : Type 0 where

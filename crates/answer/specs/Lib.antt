@@ -1,6 +1,6 @@
 pub mod Refusal
 pub mod Outcome
-pub mod Counted
+pub mod Told
 pub mod Filled
 pub mod Nth
 pub mod Address

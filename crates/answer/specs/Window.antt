@@ -1,16 +1,8 @@
 -- Windows of a row (document 01: "A window is a first byte a and a count c. It fits a row of r bytes when a ≤ r and
 -- c ≤ r − a. The answer shows that part of the lent file, c bytes, and says at which place it begins").
 use Rattle.std.specs.Prelude.{ℕ, ◌+◌, ◌-◌, Bool, ◌&&◌, List, take, drop, leb}
-use Rattle.answer.specs.Outcome.{Outcome, answer, refuse, need}
-use Rattle.answer.specs.Refusal.{number_of}
+use Rattle.answer.specs.Outcome.{Outcome, answer, need}
 use Rattle.answer.specs.declared.Shown.{Shown}
-use Rattle.answer.specs.declared.Show.{Show}
-use Rattle.answer.specs.declared.Show.TheVariants.{Is, Refused}
-
--- what the answer enum `Show` stands for
-abbrev pub shown : Show → Outcome Shown
-shown (Is row) = answer row
-shown (Refused why place) = refuse (number_of why) place
 
 -- the window (a, c) fits a row of r bytes
 abbrev pub fits : ℕ → ℕ → ℕ → Bool

@@ -2,18 +2,10 @@
 -- parameters 1 to 3): orbit number, start time and stop time, in 20 bytes.
 use Rattle.std.specs.Prelude.{ℕ, ◌+◌, ◌*◌, List, length, leb, Float}
 use Rattle.answer.specs.Outcome.{Outcome, answer, refuse, need, and_then}
-use Rattle.answer.specs.Refusal.{number_of}
 use Rattle.answer.specs.Window.{bytes_at}
 use Rattle.vax.specs.Fields.{word_at}
 use Rattle.vax.specs.Numbers.{vax_D}
 use Rattle.orbit.specs.declared.Opening.{Opening}
-use Rattle.orbit.specs.declared.Open.{Open}
-use Rattle.orbit.specs.declared.Open.TheVariants.{Is, Refused}
-
--- what the answer enum `Open` stands for
-abbrev pub opened : Open → Outcome Opening
-opened (Is opening) = answer opening
-opened (Refused why place) = refuse (number_of why) place
 
 -- bytes 0-3, unsigned little-endian: two words, the lower first
 abbrev pub orbit_number : List ℕ → ℕ

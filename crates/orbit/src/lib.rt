@@ -3,14 +3,11 @@
 // the parameters in a file to the caller.
 #![tactic(auto)]
 
-ghost use Rattle.std.specs.Prelude.{◌≡◌, ◌≤◌, length};
-ghost use Rattle.answer.specs.Window.{bytes_at};
-ghost use Rattle.vax.specs.Decoded.{decoded};
-ghost use Rattle.vax.specs.Numbers.{vax_D};
-ghost use Rattle.orbit.specs.Opening.{opened, orbit_number, per_orbit_opening};
+ghost use Rattle.std.specs.Prelude.{◌≡◌, ◌+◌, ◌≤◌, length};
+ghost use Rattle.answer.specs.Told.{told};
+ghost use Rattle.orbit.specs.Opening.{orbit_number, time_at, per_orbit_opening};
 
-use answer::Refusal;
-use vax::Decode;
+use answer::{Refusal, Refused};
 
 // The orbit's number, and when its mapping starts and stops, in TDB seconds from J2000.
 #[derive(Clone, Copy)]
@@ -18,13 +15,6 @@ pub struct Opening {
     pub orbit: usize,
     pub start: f64,
     pub stop: f64,
-}
-
-// An opening, or a refusal with its place.
-#[derive(Clone, Copy)]
-pub enum Open {
-    Is(Opening),
-    Refused(Refusal, usize),
 }
 
 // Bytes 0-3, unsigned little-endian.
@@ -37,43 +27,28 @@ fn orbit_number(bytes: &[u8]) -> usize
     low + 65536 * high
 }
 
-// Bytes 4-11, a D number.
-fn start_time(bytes: &[u8]) -> Decode
-    requires { 20 ≤ length bytes.now }
-    ensures { decoded result ≡ vax_D (bytes_at bytes.now 4 8) }
+// The D number in the eight bytes from `at` on; its refusal's place is `at`.
+fn time_at(bytes: &[u8], at: usize) -> Result<f64, Refused>
+    requires { at + 8 ≤ length bytes.now }
+    ensures { told result ≡ time_at bytes.now at }
 {
-    vax::vax_d(&bytes[4..12])
-}
-
-// Bytes 12-19, a D number.
-fn stop_time(bytes: &[u8]) -> Decode
-    requires { 20 ≤ length bytes.now }
-    ensures { decoded result ≡ vax_D (bytes_at bytes.now 12 8) }
-{
-    vax::vax_d(&bytes[12..20])
+    match vax::vax_d(&bytes[at..at + 8]) {
+        Ok(time) => Ok(time),
+        Err(Refused(why, place)) => Err(Refused(why, at + place)),
+    }
 }
 
 // The opening in the first 20 bytes lent, with the times as `vax::vax_d` reads them, to the nearest. It
 // skips nothing: lend it appendix D's data block. In a Magellan file-12 record that block starts 8 bytes
 // into the value, after the secondary header.
-pub fn per_orbit_opening(bytes: &[u8]) -> Open
-    ensures { opened result ≡ per_orbit_opening bytes.now }
+pub fn per_orbit_opening(bytes: &[u8]) -> Result<Opening, Refused>
+    ensures { told result ≡ per_orbit_opening bytes.now }
 {
     if bytes.len() < 20 {
-        return Open::Refused(Refusal::Short, 0);
+        return Err(Refused(Refusal::Short, 0));
     }
-    let first = start_time(bytes);
-    match first {
-        Decode::Refused(why, _) => Open::Refused(why, 4),
-        Decode::Is(start) => {
-            let second = stop_time(bytes);
-            match second {
-                Decode::Refused(why, _) => Open::Refused(why, 12),
-                Decode::Is(stop) => {
-                    let orbit = orbit_number(bytes);
-                    Open::Is(Opening { orbit, start, stop })
-                }
-            }
-        }
-    }
+    let start = time_at(bytes, 4)?;
+    let stop = time_at(bytes, 12)?;
+    let orbit = orbit_number(bytes);
+    Ok(Opening { orbit, start, stop })
 }

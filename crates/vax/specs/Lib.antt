@@ -1,4 +1,3 @@
-pub mod Decoded
 pub mod Fields
 pub mod Numbers
 pub mod Exact

@@ -5,21 +5,14 @@
 
 ghost use Rattle.std.specs.Prelude.{◌≡◌, ◌+◌, ◌*◌, ◌/◌, ◌^◌, ◌<◌, ◌≤◌, length};
 ghost use Rattle.std.specs.Float.Ieee.Nearest.{closest};
-ghost use Rattle.vax.specs.Decoded.{decoded};
+ghost use Rattle.answer.specs.Told.{told};
 ghost use Rattle.vax.specs.Fields.{word_at};
 ghost use Rattle.vax.specs.Numbers.{by_exponent, vax_F, vax_D, vax_D_dropped};
 ghost use Rattle.vax.specs.Exact.{ExactF, ExactDroppedD};
 ghost use Rattle.vax.specs.Nearest.{NearestD};
 ghost use Rattle.vax.specs.Private.{patterned, below_sign_F, below_sign_D, BitsF, BitsD};
 
-use answer::Refusal;
-
-// A number's float, or a refusal with its place.
-#[derive(Clone, Copy)]
-pub enum Decode {
-    Is(f64),
-    Refused(Refusal, usize),
-}
+use answer::{Refusal, Refused};
 
 // A byte as a number to calculate with.
 fn wide(byte: u8) -> u64
@@ -41,21 +34,21 @@ fn word(bytes: &[u8], at: usize) -> u64
 // The number that `bytes` starts with: refusal 9 or zero for exponent 0, else the float whose pattern is
 // the sign, then `size` and 894 more in the exponent's field. `size` is the number's exponent, then 52
 // digits of its fraction; digits that were rounded up run over into the exponent.
-fn number(bytes: &[u8], size: u64) -> Decode
+fn number(bytes: &[u8], size: u64) -> Result<f64, Refused>
     requires { (4 ≤ length bytes.now) × (size ≤ 2 ^ 60) }
-    ensures { decoded result ≡ by_exponent (patterned size bytes.now) bytes.now }
+    ensures { told result ≡ by_exponent (patterned size bytes.now) bytes.now }
 {
     let first = word(bytes, 0);
     let sign = first / 32768;
     if first / 128 % 256 == 0 {
         if sign == 1 {
-            return Decode::Refused(Refusal::Reserved, 0);
+            return Err(Refused(Refusal::Reserved, 0));
         }
-        return Decode::Is(0.0);
+        return Ok(0.0);
     }
     let pattern = sign * 0x8000_0000_0000_0000 + 0x37e0_0000_0000_0000 + size;
     let float = f64::from_bits(pattern);
-    Decode::Is(float)
+    Ok(float)
 }
 
 // The 31 bits of an F number below its sign, exponent and fraction, which are also the upper ones of a D
@@ -76,12 +69,12 @@ fn bits_d(bytes: &[u8]) -> u64
 }
 
 // The F number in the first 4 bytes, exactly: `exact` says what the float is over whole numbers.
-pub fn vax_f(bytes: &[u8]) -> Decode
-    ensures result_value { decoded result ≡ vax_F bytes.now }
-    ensures exact { ExactF bytes.now (decoded result) }
+pub fn vax_f(bytes: &[u8]) -> Result<f64, Refused>
+    ensures result_value { told result ≡ vax_F bytes.now }
+    ensures exact { ExactF bytes.now (told result) }
 {
     if bytes.len() < 4 {
-        return Decode::Refused(Refusal::Short, 0);
+        return Err(Refused(Refusal::Short, 0));
     }
     // 23 digits of a fraction and 29 zeros
     number(bytes, bits_f(bytes) * 0x2000_0000)
@@ -106,24 +99,24 @@ fn dropped_eighth(bits: u64) -> u64
 
 // The D number in the first 8 bytes as the nearest 64-bit float, a tie going to the even one: `nearest`
 // says over whole numbers what that means and how far the float is from the number.
-pub fn vax_d(bytes: &[u8]) -> Decode
-    ensures result_value { decoded result ≡ vax_D bytes.now }
-    ensures nearest { NearestD bytes.now (decoded result) }
+pub fn vax_d(bytes: &[u8]) -> Result<f64, Refused>
+    ensures result_value { told result ≡ vax_D bytes.now }
+    ensures nearest { NearestD bytes.now (told result) }
 {
     if bytes.len() < 8 {
-        return Decode::Refused(Refusal::Short, 0);
+        return Err(Refused(Refusal::Short, 0));
     }
     number(bytes, nearest_eighth(bits_d(bytes)))
 }
 
 // The D number in the first 8 bytes, its three lowest fraction bits dropped and the rest exact, for old
 // jobs: `exact` says what the float is over whole numbers.
-pub fn vax_d_dropped(bytes: &[u8]) -> Decode
-    ensures result_value { decoded result ≡ vax_D_dropped bytes.now }
-    ensures exact { ExactDroppedD bytes.now (decoded result) }
+pub fn vax_d_dropped(bytes: &[u8]) -> Result<f64, Refused>
+    ensures result_value { told result ≡ vax_D_dropped bytes.now }
+    ensures exact { ExactDroppedD bytes.now (told result) }
 {
     if bytes.len() < 8 {
-        return Decode::Refused(Refusal::Short, 0);
+        return Err(Refused(Refusal::Short, 0));
     }
     number(bytes, dropped_eighth(bits_d(bytes)))
 }

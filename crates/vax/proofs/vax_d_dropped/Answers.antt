@@ -2,7 +2,7 @@
 use Prim.Native.Nat.{ℕ}
 use mathlib.Core.Path.{◌∙◌, sym, ap}
 use Rattle.answer.specs.Outcome.{refuse}
-use Rattle.vax.specs.Decoded.{decoded}
+use Rattle.answer.specs.Told.{told}
 use Rattle.vax.specs.Numbers.{by_exponent, dropped_D, vax_D_dropped}
 use Rattle.vax.specs.Private.{patterned}
 use Rattle.vax.specs.Exact.{ExactDroppedD}
@@ -21,7 +21,7 @@ pub returns : goal.returns
 returns c =
     let bits = c.bits_d in
     let s = c.args.bytes.now in
-    let both = both_clauses (ExactDroppedD s) (vax_D_dropped s) (vax_D_dropped_exact s) (decoded c.number.result)
+    let both = both_clauses (ExactDroppedD s) (vax_D_dropped s) (vax_D_dropped_exact s) (told c.number.result)
     (c.number.ensures
     ∙ ap (λ (q : ℕ). by_exponent (patterned q s) s) c.dropped_eighth.ensures
     ∙ from-D-dropped s bits.result bits.ensures.0 bits.ensures.1 c.if-bytes-lt8.false) in

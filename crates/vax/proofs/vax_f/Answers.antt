@@ -1,7 +1,7 @@
 -- `vax::vax_f` meets its contract: `number` answers for the bits with 29 zeros more, which is the definition's float.
 use mathlib.Core.Path.{◌∙◌, sym}
 use Rattle.answer.specs.Outcome.{refuse}
-use Rattle.vax.specs.Decoded.{decoded}
+use Rattle.answer.specs.Told.{told}
 use Rattle.vax.specs.Numbers.{exact_F, vax_F}
 use Rattle.vax.specs.Exact.{ExactF}
 use Rattle.vax.proofs.Cases.{too_short, both_clauses}
@@ -19,6 +19,6 @@ pub returns : goal.returns
 returns c =
     let bits = c.bits_f in
     let s = c.args.bytes.now in
-    let both = both_clauses (ExactF s) (vax_F s) (vax_F_exact s) (decoded c.number.result)
+    let both = both_clauses (ExactF s) (vax_F s) (vax_F_exact s) (told c.number.result)
     (c.number.ensures ∙ from-F s bits.result bits.ensures.0 bits.ensures.1 c.if-bytes-lt4.false) in
     record { result_value = both.0; exact = both.1 }
