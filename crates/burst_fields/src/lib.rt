@@ -1,20 +1,20 @@
 // The fields of Cassini short bursts: a field of a row, by its position in section 8.1 of source
 // document 000, read by its storage type, and the verdict on it by its limits. Renders document 02,
 // item 1. Where rows and fields stand is left to `bursts` and `burst_layout`, which limits there are
-// and how they are judged to `limits` and `verdicts`.
+// and how they are told to `limits` and `verdicts`.
 #![tactic(auto)]
 
+ghost use Rattle.answer.specs.Told.{told};
 ghost use Rattle.std.specs.Prelude.{◌≡◌, ◌+◌, ◌≤◌, length};
 ghost use Rattle.answer.specs.Outcome.{answer};
 ghost use Rattle.answer.specs.Window.{bytes_at};
 ghost use Rattle.little.specs.LittleEndian.{le_number};
 ghost use Rattle.bursts.specs.Rows.{record_size};
 ghost use Rattle.burst_layout.specs.Row.{SizeFits};
-ghost use Rattle.verdicts.specs.Judged.{judged};
-ghost use Rattle.burst_fields.specs.Fields.{signed_of, content_of, field_from, field_of, field_verdict, valued};
+ghost use Rattle.burst_fields.specs.Fields.{signed_of, content_of, field_from, field_of, field_verdict};
 
-use answer::{Part, Refusal, Show};
-use burst_layout::{Found, Storage};
+use answer::{Part, Refusal, Refused};
+use burst_layout::Storage;
 use limits::Table;
 use verdicts::Judgement;
 
@@ -62,7 +62,7 @@ fn signed(bits: u32) -> i64
 // What the bytes of a part that lies in the file hold, by their storage type.
 fn content(file: &[u8], stored: Storage, part: Part) -> Value
     requires { (part.place + part.count ≤ length file.now) × SizeFits stored part.count }
-    ensures { valued result ≡ answer (content_of stored file.now part) }
+    ensures { told result ≡ answer (content_of stored file.now part) }
 {
     let at = part.place;
     match stored {
@@ -78,33 +78,33 @@ fn content(file: &[u8], stored: Storage, part: Part) -> Value
 // not have.
 fn field_from(file: &[u8], start: usize, position: usize) -> Value
     requires { start + record_size ≤ length file.now }
-    ensures { valued result ≡ field_from file.now start position }
+    ensures { told result ≡ field_from file.now start position }
 {
     match burst_layout::line_of(position) {
-        Found::Is(line) => {
+        Ok(line) => {
             let stored = line.stored;
             let place = start + line.place;
             let count = line.size;
             content(file, stored, Part { place, count })
         }
-        Found::Refused(why, place) => Value::Refused(why, place),
+        Err(Refused(why, place)) => Value::Refused(why, place),
     }
 }
 
 // The field at a position of row `k`, jumped to: 14, 16, 12, 6, 10.
 pub fn field(file: &[u8], first: usize, k: usize, position: usize) -> Value
-    ensures { valued result ≡ field_of file.now first k position }
+    ensures { told result ≡ field_of file.now first k position }
 {
     match bursts::jump_to(file, first, k) {
-        Show::Is(row) => field_from(file, row.part.place, position),
-        Show::Refused(why, place) => Value::Refused(why, place),
+        Ok(row) => field_from(file, row.part.place, position),
+        Err(Refused(why, place)) => Value::Refused(why, place),
     }
 }
 
 // Where the field at a position of row `k` stands against its limits: 14, 16, 12, 6, and 10 for a field
 // without plain limits.
 pub fn verdict(file: &[u8], first: usize, k: usize, position: usize) -> Judgement
-    ensures { judged result ≡ field_verdict file.now first k position }
+    ensures { told result ≡ field_verdict file.now first k position }
 {
     match field(file, first, k, position) {
         Value::Unsigned(n) => verdicts::verdict(Table::Bursts, position, n as i64),

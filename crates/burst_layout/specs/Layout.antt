@@ -8,8 +8,6 @@ use Rattle.answer.specs.Refusal.{number_of}
 use Rattle.burst_layout.specs.declared.Storage.{Storage}
 use Rattle.burst_layout.specs.declared.Storage.TheVariants.{Unsigned, Signed, Float4, Float8, Text}
 use Rattle.burst_layout.specs.declared.Field.{Field}
-use Rattle.burst_layout.specs.declared.Found.{Found}
-use Rattle.burst_layout.specs.declared.Found.TheVariants.{Is, Refused}
 
 -- a line: the field's position, the place of its first byte in the row, counted from 0, its length in bytes and its type
 abbrev pub field : ℕ → ℕ → ℕ → Storage → Field
@@ -285,7 +283,3 @@ abbrev pub field_at : ℕ → Outcome Field
 field_at zero = refuse 10 0
 field_at (suc i) = line_in layout i
 
--- what the answer enum `Found` stands for
-abbrev pub found : Found → Outcome Field
-found (Is f) = answer f
-found (Refused why place) = refuse (number_of why) place

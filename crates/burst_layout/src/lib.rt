@@ -4,11 +4,12 @@
 // counted from 1". It reads no file: what a field's bytes say is left to the crates above.
 #![tactic(auto)]
 
+ghost use Rattle.answer.specs.Told.{told};
 ghost use Rattle.std.specs.Prelude.{◌≡◌};
-ghost use Rattle.burst_layout.specs.Layout.{found, field_at};
+ghost use Rattle.burst_layout.specs.Layout.{field_at};
 ghost use Rattle.burst_layout.specs.Private.{type_of, size_of, Others, word_at, digits_at};
 
-use answer::Refusal;
+use answer::{Refusal, Refused};
 
 // A field's storage type in section 8.2: uint32, int32, float32, float64 and ASCII string.
 #[derive(Clone, Copy)]
@@ -28,13 +29,6 @@ pub struct Field {
     pub place: usize,
     pub size: usize,
     pub stored: Storage,
-}
-
-// A field, or a refusal with its place.
-#[derive(Clone, Copy)]
-pub enum Found {
-    Is(Field),
-    Refused(Refusal, usize),
 }
 
 // How many fields section 8.1 lists.
@@ -159,18 +153,18 @@ fn size_of(digit: usize) -> usize
 
 // The field at a position of section 8.1, counted from 1; a position that the section does not have is
 // refused.
-pub fn line_of(position: usize) -> Found
-    ensures { found result ≡ field_at position }
+pub fn line_of(position: usize) -> Result<Field, Refused>
+    ensures { told result ≡ field_at position }
 {
     if position == 0 {
-        return Found::Refused(Refusal::Unknown, 0);
+        return Err(Refused(Refusal::Unknown, 0));
     }
     if FIELDS < position {
-        return Found::Refused(Refusal::Unknown, 0);
+        return Err(Refused(Refusal::Unknown, 0));
     }
     let digits = digits_of(position);
     let digit = digits % 16;
-    Found::Is(Field {
+    Ok(Field {
         position,
         place: digits / 16,
         size: size_of(digit),

@@ -7,10 +7,9 @@
 // record.
 #![tactic(auto)]
 
+ghost use Rattle.answer.specs.Told.{told};
 ghost use Rattle.std.specs.Prelude.{◌≡◌, ◌≤◌};
 ghost use Rattle.answer.specs.Outcome.{mapped};
-ghost use Rattle.answer.specs.Counted.{counted};
-ghost use Rattle.answer.specs.Window.{shown};
 ghost use Rattle.fixed_rows.specs.Shape.{row_at};
 ghost use Rattle.fixed_rows.specs.Check.{count_rows};
 ghost use Rattle.fixed_rows.specs.Read.{find_row};
@@ -18,48 +17,47 @@ ghost use Rattle.fixed_rows.specs.Jump.{start_of, jump_start, jump_to};
 ghost use Rattle.fixed_rows.specs.From.{row_from};
 ghost use Rattle.bursts.specs.Rows.{record_size, bursts};
 
-use answer::{Count, Show};
 
 // The bytes of a record.
 const RECORD: usize = 1272;
 
 // The number of records from `first` on: 14, 16 for a first place beyond the file, 12 where the rest is
 // not whole records.
-pub fn check(file: &[u8], first: usize) -> Count
-    ensures { counted result ≡ count_rows (bursts first) file.now }
+pub fn check(file: &[u8], first: usize) -> Result<usize, Refused>
+    ensures { told result ≡ count_rows (bursts first) file.now }
 {
     fixed_rows::count(file, first, RECORD)
 }
 
 // Record `k`, found by passing the records before it: 14, 16, 12, 6.
-pub fn find_row(file: &[u8], first: usize, k: usize) -> Show
-    ensures { shown result ≡ find_row (bursts first) file.now k }
+pub fn find_row(file: &[u8], first: usize, k: usize) -> Result<Shown, Refused>
+    ensures { told result ≡ find_row (bursts first) file.now k }
 {
     record_at(fixed_rows::read_start(file, first, RECORD, k))
 }
 
 // The same record, found by computing its place: 14, 16, 12, 6.
-pub fn jump_to(file: &[u8], first: usize, k: usize) -> Show
-    ensures { shown result ≡ jump_to (bursts first) file.now k }
+pub fn jump_to(file: &[u8], first: usize, k: usize) -> Result<Shown, Refused>
+    ensures { told result ≡ jump_to (bursts first) file.now k }
 {
     record_at(jump_start(file, first, k))
 }
 
 // Going on: the record that begins at place `from`: 14, 16, 12, and 6 where none begins there.
-pub fn row_from(file: &[u8], first: usize, from: usize) -> Show
-    ensures { shown result ≡ row_from (bursts first) file.now from }
+pub fn row_from(file: &[u8], first: usize, from: usize) -> Result<Shown, Refused>
+    ensures { told result ≡ row_from (bursts first) file.now from }
 {
     record_at(fixed_rows::start_from(file, first, RECORD, from))
 }
 
 // Where record `k` starts, computed. It is asked first whether there is such a record, so that no
 // number wraps.
-fn jump_start(file: &[u8], first: usize, k: usize) -> Count
-    ensures { counted result ≡ jump_start first record_size file.now k }
+fn jump_start(file: &[u8], first: usize, k: usize) -> Result<usize, Refused>
+    ensures { told result ≡ jump_start first record_size file.now k }
 {
     match fixed_rows::row_numbered(file, first, RECORD, k) {
-        Count::Is(number) => Count::Is(record_start(first, number)),
-        Count::Refused(why, place) => Count::Refused(why, place),
+        Ok(number) => Ok(record_start(first, number)),
+        Err(Refused(why, place)) => Err(Refused(why, place)),
     }
 }
 
@@ -72,11 +70,11 @@ fn record_start(first: usize, k: usize) -> usize
 }
 
 // The record that starts at the place found.
-fn record_at(found: Count) -> Show
-    ensures { shown result ≡ mapped (row_at (bursts 0)) (counted found) }
+fn record_at(found: Result<usize, Refused>) -> Result<Shown, Refused>
+    ensures { told result ≡ mapped (row_at (bursts 0)) (told found) }
 {
     match found {
-        Count::Is(place) => Show::Is(answer::unlabelled(place, RECORD)),
-        Count::Refused(why, place) => Show::Refused(why, place),
+        Ok(place) => Ok(answer::unlabelled(place, RECORD)),
+        Err(Refused(why, place)) => Err(Refused(why, place)),
     }
 }

@@ -8,6 +8,7 @@
 // to the header.
 #![tactic(auto)]
 
+ghost use Rattle.answer.specs.Told.{told};
 ghost use Rattle.std.specs.Prelude.{◌≡◌, [], length as size};
 ghost use Rattle.answer.specs.Outcome.{mapped};
 ghost use Rattle.answer.specs.Filled.{filled};
@@ -18,10 +19,10 @@ ghost use Rattle.reader.specs.Read.{read_row, jump_row, row_from};
 ghost use Rattle.dots.specs.Tone.{tone};
 ghost use Rattle.dots.specs.Dot.{bit};
 ghost use Rattle.plotter.specs.Strip.{strip_into};
-ghost use Rattle.trace.specs.Behind.{traced, dot_numbers, dot_behind};
+ghost use Rattle.trace.specs.Behind.{dot_numbers, dot_behind};
 ghost use Rattle.substitute.specs.Chosen.{source_number};
 ghost use Rattle.substitute.specs.Substitute.{read_either};
-ghost use Rattle.row_index.specs.Index.{built, index_of, built_of, build_index, accepted, check_index};
+ghost use Rattle.row_index.specs.Index.{index_of, built_of, build_index, check_index};
 ghost use Rattle.joined.specs.Joined.{join_index};
 ghost use Rattle.kept.specs.Kept.{keep_index, load_kept};
 ghost use Rattle.kept_rows.specs.Kind2.{list_of, loaded_of, load_kept2, to_kind1};
@@ -37,17 +38,13 @@ ghost use Rattle.hand.specs.Handed.{result_of, handed};
 ghost use Rattle.hand.specs.Parts.{four_bytes, row_numbers, side_number, in_numbers, beams_handed, mode_handed};
 ghost use Rattle.hand.specs.Numbers.{choice_of, write_numbered};
 
-use answer::Show;
+use answer::Refused;
 use burst_codes::{Compression, Enabled};
-use hand::{Numbered, Result, Told};
-use kept_rows::Read;
-use label::LabelRead;
+use hand::Result;
 use limits::Table;
 use orbit::Open;
 use reader::Kind;
-use row_index::{Build, Verified};
-use substitute::{Choice, Source};
-use trace::Trace;
+use substitute::Source;
 
 // The label at the front of the bytes.
 #[unsafe(no_mangle)]
@@ -70,7 +67,7 @@ pub extern "C" fn crest_read_label(
     ensures spaces_after { spaces.new ≡ handed (λ l. l.spaces) (read_label (choice_of version_2) bytes.now) spaces.old }
 {
     match label::read_label(hand::choice(version_2), bytes) {
-        LabelRead::Is(l) => {
+        Ok(l) => {
             let by = l.agency;
             let about = l.description;
             let of = l.version;
@@ -83,7 +80,7 @@ pub extern "C" fn crest_read_label(
             *spaces = l.spaces;
             hand::DONE
         }
-        LabelRead::Refused(why, place) => hand::refused(why, place),
+        Err(Refused(why, place)) => hand::refused(why, place),
     }
 }
 
@@ -102,10 +99,10 @@ pub extern "C" fn crest_write_label(
     ensures written_after { written.new ≡ handed size (write_numbered version head.now length (size out.old)) written.old }
 {
     match hand::version_with(version) {
-        Numbered::Is(known) => {
+        Ok(known) => {
             hand::count(label_writer::write_label(known, head, length, out), written)
         }
-        Numbered::Refused(why, place) => hand::refused(why, place),
+        Err(Refused(why, place)) => hand::refused(why, place),
     }
 }
 
@@ -322,29 +319,29 @@ pub extern "C" fn crest_substitute_row(
     ensures shown_after { shown.new ≡ handed (λ c. row_numbers shown.old c.row) (read_either (choice_of version_2) original.now substitute.now row) shown.old }
 {
     match substitute::read_row(hand::choice(version_2), original, substitute, row) {
-        Choice::Is(found) => {
+        Ok(found) => {
             let from = found.source;
             *source = source_number(from);
             let whole = found.row;
-            hand::row(Show::Is(whole), shown)
+            hand::row(Ok(whole), shown)
         }
-        Choice::Refused(why, place) => hand::refused(why, place),
+        Err(Refused(why, place)) => hand::refused(why, place),
     }
 }
 
 // How many entries of an index were written, and for how many rows.
-fn indexed(answer: Build, entries: &mut usize, rows: &mut usize) -> Result
-    ensures value { result ≡ result_of (built answer) }
-    ensures entries_after { entries.new ≡ handed (λ b. b.entries) (built answer) entries.old }
-    ensures rows_after { rows.new ≡ handed (λ b. b.rows) (built answer) rows.old }
+fn indexed(answer: Result<Built, Refused>, entries: &mut usize, rows: &mut usize) -> Result
+    ensures value { result ≡ result_of (told answer) }
+    ensures entries_after { entries.new ≡ handed (λ b. b.entries) (told answer) entries.old }
+    ensures rows_after { rows.new ≡ handed (λ b. b.rows) (told answer) rows.old }
 {
     match answer {
-        Build::Is(b) => {
+        Ok(b) => {
             *entries = b.entries;
             *rows = b.rows;
             hand::DONE
         }
-        Build::Refused(why, place) => hand::refused(why, place),
+        Err(Refused(why, place)) => hand::refused(why, place),
     }
 }
 
@@ -370,12 +367,12 @@ pub extern "C" fn crest_build_index(
 }
 
 // A list, or a record, that is the file's, or not.
-fn verified(answer: Verified) -> Result
-    ensures { result ≡ result_of (accepted answer) }
+fn verified(answer: Result<(), Refused>) -> Result
+    ensures { result ≡ result_of (told answer) }
 {
     match answer {
-        Verified::Right => hand::DONE,
-        Verified::Refused(why, place) => hand::refused(why, place),
+        Ok(()) => hand::DONE,
+        Err(Refused(why, place)) => hand::refused(why, place),
     }
 }
 
@@ -446,12 +443,12 @@ pub extern "C" fn crest_load_kept2(
     ensures entries_after { entries.new ≡ handed (λ l. l.entries) (mapped loaded_of (load_kept2 bytes.now (size list.old))) entries.old }
 {
     match kept_rows::load(bytes, list) {
-        Read::Is(l) => {
+        Ok(l) => {
             *rows = l.rows;
             *entries = l.entries;
             hand::DONE
         }
-        Read::Refused(why, place) => hand::refused(why, place),
+        Err(Refused(why, place)) => hand::refused(why, place),
     }
 }
 
@@ -584,12 +581,12 @@ fn dot_number(set: bool) -> usize
 }
 
 // A dot in four numbers: its byte's place, the byte, its tone, and whether the dot is set.
-fn dot(answer: Trace, numbers: &mut [usize; 4]) -> Result
-    ensures value { result ≡ result_of (traced answer) }
-    ensures numbers_after { numbers.new ≡ handed dot_numbers (traced answer) numbers.old }
+fn dot(answer: Result<Dot, Refused>, numbers: &mut [usize; 4]) -> Result
+    ensures value { result ≡ result_of (told answer) }
+    ensures numbers_after { numbers.new ≡ handed dot_numbers (told answer) numbers.old }
 {
     match answer {
-        Trace::Is(found) => {
+        Ok(found) => {
             let place = found.place;
             let byte = answer::wide(found.byte);
             let tone = answer::wide(found.tone);
@@ -597,7 +594,7 @@ fn dot(answer: Trace, numbers: &mut [usize; 4]) -> Result
             *numbers = [place, byte, tone, set];
             hand::DONE
         }
-        Trace::Refused(why, place) => hand::refused(why, place),
+        Err(Refused(why, place)) => hand::refused(why, place),
     }
 }
 
@@ -759,14 +756,14 @@ pub extern "C" fn crest_burst_field(
     ensures shown_after { shown.new ≡ handed (λ f. f.shown) (mapped in_numbers (field_of file.now start row position)) shown.old }
 {
     match hand::in_numbers(burst_fields::field(file, start, row, position)) {
-        Told::Is(f) => {
+        Ok(f) => {
             *kind = f.kind;
             *bits = f.bits;
             *place = f.place;
             *shown = f.shown;
             hand::DONE
         }
-        Told::Refused(why, at) => hand::refused(why, at),
+        Err(Refused(why, at)) => hand::refused(why, at),
     }
 }
 

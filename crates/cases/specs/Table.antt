@@ -1,10 +1,9 @@
 -- The cases of document 01 that are marked P, in its order, each over the definitions that the public calls promise. Where a
 -- case speaks of every file of some size, so does its line; and what it says of a labelled file holds whichever versions of the label
 -- are allowed (document 02, item 11).
-use Rattle.std.specs.Prelude.{ℕ, ◌*◌, ◌≤◌, ◌≡◌, true, false, List, [], ◌∷◌, length, replicate, pos, neg_ℤ}
+use Rattle.std.specs.Prelude.{ℕ, ◌*◌, ◌≤◌, ◌≡◌, true, false, List, [], ◌∷◌, length, replicate, pos, neg_ℤ, Some}
 use Rattle.std.specs.Float.{fin}
 use Rattle.answer.specs.Outcome.{answer, refuse, mapped}
-use Rattle.answer.specs.declared.Nesting.TheVariants.{Known}
 use Rattle.answer.specs.declared.Shown.{Shown}
 use Rattle.label.specs.declared.Versions.{Versions}
 use Rattle.sfdu.specs.Check.{rows_of_file}
@@ -23,7 +22,7 @@ use Rattle.cases.specs.Files.{sixty_three, printed, shorter_outside, longer_insi
 abbrev pub row : (place count label depth outermost : ℕ) → Shown
 row place count label depth outermost = record {
   part = record { place = place; count = count };
-  address = record { label = label; nesting = Known depth outermost };
+  address = record { label = label; nesting = Some (record { depth = depth; outermost = outermost }) };
 }
 
 pub record Table : Type 0 where

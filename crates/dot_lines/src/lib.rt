@@ -7,15 +7,15 @@
 // below the square of 4 * M + 2.
 #![tactic(auto)]
 
+ghost use Rattle.answer.specs.Told.{told};
 ghost use Rattle.std.specs.Prelude.{◌≡◌, ◌++◌, ℕ, ◌+◌, ◌*◌, ◌/◌, ◌≤◌, ◌<◌, length, drop};
 ghost use Rattle.std.specs.Int.Bits.{bit_and};
-ghost use Rattle.answer.specs.Counted.{counted};
 ghost use Rattle.answer.specs.Filled.{Writes};
 ghost use Rattle.dots.specs.Matrix.{level};
 ghost use Rattle.dot_lines.specs.Line.{line_bytes, line_byte, line, line_into};
 ghost use Rattle.dot_lines.specs.Private.{cut, lanes as lanes_of, cuts_from, gathered, dots_of, sample_at};
 
-use answer::{Count, Refusal};
+use answer::{Refusal, Refused};
 
 // 255 and 1 in each of four numbers of 16 bits.
 const BYTES: usize = 0x00ff_00ff_00ff_00ff;
@@ -168,13 +168,13 @@ fn put_line(samples: &[u8], y: usize, out: &mut [u8])
 }
 
 // Line `y` of the dots of these samples, written to the front of `out`.
-pub fn draw_line(samples: &[u8], y: usize, out: &mut [u8]) -> Count
-    ensures { Writes (line_into (length out.old) y samples.now) out.old (counted result) out.new }
+pub fn draw_line(samples: &[u8], y: usize, out: &mut [u8]) -> Result<usize, Refused>
+    ensures { Writes (line_into (length out.old) y samples.now) out.old (told result) out.new }
 {
     let bytes = line_bytes(samples.len());
     if out.len() < bytes {
-        return Count::Refused(Refusal::Small, 0);
+        return Err(Refused(Refusal::Small, 0));
     }
     put_line(samples, y, out);
-    Count::Is(bytes)
+    Ok(bytes)
 }

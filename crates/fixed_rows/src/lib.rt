@@ -5,86 +5,86 @@
 // are shown, is left to the crates above; that the two ways to a row agree is proved here.
 #![tactic(auto)]
 
+ghost use Rattle.answer.specs.Told.{told};
 ghost use Rattle.std.specs.Prelude.{◌≡◌, drop};
-ghost use Rattle.answer.specs.Counted.{counted};
 ghost use Rattle.fixed_rows.specs.Check.{whole_rows, row_count};
 ghost use Rattle.fixed_rows.specs.Read.{passing, read_start};
 ghost use Rattle.fixed_rows.specs.Jump.{row_numbered};
 ghost use Rattle.fixed_rows.specs.From.{starts, start_from};
 
-use answer::{Count, Refusal};
+use answer::{Refusal, Refused};
 
 // The number of rows of `step` bytes in `rest` bytes; 12 where they are not whole rows. There are no
 // rows of 0 bytes: no byte divides into them.
-fn whole_rows(rest: usize, step: usize) -> Count
-    ensures { counted result ≡ whole_rows step rest }
+fn whole_rows(rest: usize, step: usize) -> Result<usize, Refused>
+    ensures { told result ≡ whole_rows step rest }
 {
     if step == 0 {
         if rest == 0 {
-            return Count::Is(0);
+            return Ok(0);
         }
-        return Count::Refused(Refusal::Ragged, 0);
+        return Err(Refused(Refusal::Ragged, 0));
     }
     if rest % step != 0 {
-        return Count::Refused(Refusal::Ragged, 0);
+        return Err(Refused(Refusal::Ragged, 0));
     }
-    Count::Is(rest / step)
+    Ok(rest / step)
 }
 
 // The number of rows of `step` bytes from the place `first` on: 14, 16, 12.
-pub fn count(file: &[u8], first: usize, step: usize) -> Count
-    ensures { counted result ≡ row_count first step file.now }
+pub fn count(file: &[u8], first: usize, step: usize) -> Result<usize, Refused>
+    ensures { told result ≡ row_count first step file.now }
 {
     if answer::LARGEST_FILE < file.len() {
-        return Count::Refused(Refusal::TooBig, 0);
+        return Err(Refused(Refusal::TooBig, 0));
     }
     if file.len() < first {
-        return Count::Refused(Refusal::BadStart, 0);
+        return Err(Refused(Refusal::BadStart, 0));
     }
     whole_rows(file.len() - first, step)
 }
 
 // Passes `k` rows from the place `first` on; 6 where no bytes are left.
-fn pass(file: &[u8], first: usize, step: usize, k: usize) -> Count
-    ensures { counted result ≡ passing step k first (drop first file.now) }
+fn pass(file: &[u8], first: usize, step: usize, k: usize) -> Result<usize, Refused>
+    ensures { told result ≡ passing step k first (drop first file.now) }
 {
     if file.len() <= first {
-        return Count::Refused(Refusal::NoRow, 0);
+        return Err(Refused(Refusal::NoRow, 0));
     }
     let mut at = first;
     let mut left = k;
     while 0 < left {
         if file.len() - at <= step {
-            return Count::Refused(Refusal::NoRow, 0);
+            return Err(Refused(Refusal::NoRow, 0));
         }
         left -= 1;
         at += step;
     }
-    Count::Is(at)
+    Ok(at)
 }
 
 // Where row `k` starts, found by passing the rows before it: 14, 16, 12, 6.
-pub fn read_start(file: &[u8], first: usize, step: usize, k: usize) -> Count
-    ensures { counted result ≡ read_start first step file.now k }
+pub fn read_start(file: &[u8], first: usize, step: usize, k: usize) -> Result<usize, Refused>
+    ensures { told result ≡ read_start first step file.now k }
 {
     match count(file, first, step) {
-        Count::Is(_) => pass(file, first, step, k),
-        Count::Refused(why, place) => Count::Refused(why, place),
+        Ok(_) => pass(file, first, step, k),
+        Err(Refused(why, place)) => Err(Refused(why, place)),
     }
 }
 
 // The number `k`, where there is such a row: 14, 16, 12, 6.
-pub fn row_numbered(file: &[u8], first: usize, step: usize, k: usize) -> Count
-    ensures { counted result ≡ row_numbered first step file.now k }
+pub fn row_numbered(file: &[u8], first: usize, step: usize, k: usize) -> Result<usize, Refused>
+    ensures { told result ≡ row_numbered first step file.now k }
 {
     match count(file, first, step) {
-        Count::Is(rows) => {
+        Ok(rows) => {
             if k < rows {
-                return Count::Is(k);
+                return Ok(k);
             }
-            Count::Refused(Refusal::NoRow, 0)
+            Err(Refused(Refusal::NoRow, 0))
         }
-        Count::Refused(why, place) => Count::Refused(why, place),
+        Err(Refused(why, place)) => Err(Refused(why, place)),
     }
 }
 
@@ -106,16 +106,16 @@ fn row_starts(first: usize, step: usize, bytes: usize, from: usize) -> bool
 }
 
 // The place `from` where a row starts there: 14, 16, 12, and 6 where none does.
-pub fn start_from(file: &[u8], first: usize, step: usize, from: usize) -> Count
-    ensures { counted result ≡ start_from first step file.now from }
+pub fn start_from(file: &[u8], first: usize, step: usize, from: usize) -> Result<usize, Refused>
+    ensures { told result ≡ start_from first step file.now from }
 {
     match count(file, first, step) {
-        Count::Is(_) => {
+        Ok(_) => {
             if row_starts(first, step, file.len(), from) {
-                return Count::Is(from);
+                return Ok(from);
             }
-            Count::Refused(Refusal::NoRow, 0)
+            Err(Refused(Refusal::NoRow, 0))
         }
-        Count::Refused(why, place) => Count::Refused(why, place),
+        Err(Refused(why, place)) => Err(Refused(why, place)),
     }
 }

@@ -8,8 +8,6 @@ use Rattle.label.specs.declared.Version.TheVariants.{One, Two}
 use Rattle.label.specs.declared.Versions.{Versions}
 use Rattle.label.specs.declared.Versions.TheVariants as choice
 use Rattle.label_writer.specs.Write.{write_label}
-use Rattle.hand.specs.declared.Numbered.{Numbered}
-use Rattle.hand.specs.declared.Numbered.TheVariants.{Is, Refused}
 
 -- the choice, from whether version 2 is allowed
 abbrev pub choice_of : Bool → Versions
@@ -24,7 +22,3 @@ numbered_version n = cond (eqb n 1) (answer One) (cond (eqb n 2) (answer Two) (r
 unfoldable pub write_numbered : ℕ → List ℕ → ℕ → ℕ → Outcome (List ℕ)
 write_numbered number head n room = and_then (numbered_version number) (λ version. write_label version head n room)
 
--- what the enum `Numbered` stands for
-abbrev pub version_read : Numbered → Outcome Version
-version_read (Is version) = answer version
-version_read (Refused why place) = refuse (number_of why) place

@@ -1,36 +1,33 @@
 -- Parts of answers that have no number of their own in the library.
-use Rattle.std.specs.Prelude.{ℕ, ◌-◌, List, [], ◌∷◌, ℤ, pos, negsuc, get_or}
+use Rattle.std.specs.Prelude.{ℕ, ◌-◌, List, [], ◌∷◌, ℤ, pos, negsuc, get_or, Option, Some, None}
 use Rattle.label.specs.declared.Four.{Four}
 use Rattle.answer.specs.Outcome.{Outcome, answer, refuse}
 use Rattle.answer.specs.Refusal.{number_of}
 use Rattle.answer.specs.declared.Nesting.{Nesting}
-use Rattle.answer.specs.declared.Nesting.TheVariants.{Known, Absent}
 use Rattle.answer.specs.declared.Shown.{Shown}
 use Rattle.verdicts.specs.Verdict.{Side, below, inside, above}
 use Rattle.burst_fields.specs.Fields as field
 use Rattle.burst_codes.specs.Beams as mask
 use Rattle.burst_codes.specs.Modes as compression
 use Rattle.hand.specs.declared.Stored.{Stored}
-use Rattle.hand.specs.declared.Told.{Told}
-use Rattle.hand.specs.declared.Told.TheVariants.{Is, Refused}
 
 -- four characters as four bytes
 abbrev pub four_bytes : Four → List ℕ
 four_bytes f = f.a ∷ f.b ∷ f.c ∷ f.d ∷ []
 
 -- whether the depth is known: 1, and 0 where it is absent
-abbrev pub nesting_number : Nesting → ℕ
-nesting_number (Known depth outermost) = 1
-nesting_number Absent = 0
+abbrev pub nesting_number : Option Nesting → ℕ
+nesting_number (Some nesting) = 1
+nesting_number None = 0
 
 -- what is handed over of the depth and of the outermost place: where they are absent, what was there
-abbrev pub depth_handed : Nesting → ℕ → ℕ
-depth_handed (Known depth outermost) old = depth
-depth_handed Absent old = old
+abbrev pub depth_handed : Option Nesting → ℕ → ℕ
+depth_handed (Some nesting) old = nesting.depth
+depth_handed None old = old
 
-abbrev pub outermost_handed : Nesting → ℕ → ℕ
-outermost_handed (Known depth outermost) old = outermost
-outermost_handed Absent old = old
+abbrev pub outermost_handed : Option Nesting → ℕ → ℕ
+outermost_handed (Some nesting) old = nesting.outermost
+outermost_handed None old = old
 
 -- what is shown of a row, in six numbers, over the six that were there
 abbrev pub row_numbers : List ℕ → Shown → List ℕ
@@ -62,11 +59,6 @@ in_numbers (field.signed z) = record { kind = 1; bits = bits_of z; place = 0; sh
 in_numbers (field.float4 bits) = record { kind = 2; bits = bits; place = 0; shown = 0 }
 in_numbers (field.float8 bits) = record { kind = 3; bits = bits; place = 0; shown = 0 }
 in_numbers (field.text p) = record { kind = 4; bits = 0; place = p.place; shown = p.count }
-
--- what the enum `Told` stands for
-abbrev pub told : Told → Outcome Stored
-told (Is stored) = answer stored
-told (Refused why place) = refuse (number_of why) place
 
 -- the number of beams handed over for a mask: none where the mask is above
 abbrev pub beams_handed : mask.MaskVerdict → ℕ → ℕ

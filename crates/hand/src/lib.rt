@@ -4,23 +4,18 @@
 // exported functions are left to `capi`.
 #![tactic(auto)]
 
+ghost use Rattle.answer.specs.Told.{told};
 ghost use Rattle.std.specs.Prelude.{◌≡◌};
 ghost use Rattle.answer.specs.Refusal.{number_of};
-ghost use Rattle.answer.specs.Counted.{counted};
-ghost use Rattle.answer.specs.Window.{shown};
 ghost use Rattle.label.specs.Version.{version_number};
 ghost use Rattle.answer.specs.Outcome.{mapped};
-ghost use Rattle.vax.specs.Decoded.{decoded};
-ghost use Rattle.burst_fields.specs.Fields.{valued};
-ghost use Rattle.verdicts.specs.Judged.{judged};
-ghost use Rattle.hand.specs.Parts.{row_numbers, side_number, bits_of, in_numbers, told};
+ghost use Rattle.hand.specs.Parts.{row_numbers, side_number, bits_of, in_numbers};
 ghost use Rattle.hand.specs.Handed.{refused_as, result_of, handed};
-ghost use Rattle.hand.specs.Numbers.{choice_of, numbered_version, version_read};
+ghost use Rattle.hand.specs.Numbers.{choice_of, numbered_version};
 
-use answer::{Count, Nesting, Refusal, Show};
+use answer::{Nesting, Refusal, Refused};
 use burst_fields::Value;
 use label::{Version, Versions};
-use vax::Decode;
 use verdicts::Judgement;
 
 // What every call across the boundary returns: a refusal's number and its place; 0 and 0 for an answer.
@@ -29,13 +24,6 @@ use verdicts::Judgement;
 pub struct Result {
     pub refusal: usize,
     pub place: usize,
-}
-
-// The version that has a number, or a refusal.
-#[derive(Clone, Copy)]
-pub enum Numbered {
-    Is(Version),
-    Refused(Refusal, usize),
 }
 
 // Which versions are allowed, where version 2 is or is not.
@@ -49,16 +37,16 @@ pub fn choice(version_2: bool) -> Versions
 }
 
 // The version with this number.
-pub fn version_with(number: u8) -> Numbered
-    ensures { version_read result ≡ numbered_version number }
+pub fn version_with(number: u8) -> Result<Version, Refused>
+    ensures { told result ≡ numbered_version number }
 {
     if number == 1 {
-        return Numbered::Is(Version::One);
+        return Ok(Version::One);
     }
     if number == 2 {
-        return Numbered::Is(Version::Two);
+        return Ok(Version::Two);
     }
-    Numbered::Refused(Refusal::BadLabel, 0)
+    Err(Refused(Refusal::BadLabel, 0))
 }
 
 // The number of a version.
@@ -86,28 +74,28 @@ pub fn refused(why: Refusal, place: usize) -> Result
 }
 
 // A number.
-pub fn count(answer: Count, number: &mut usize) -> Result
-    ensures value { result ≡ result_of (counted answer) }
-    ensures number_after { number.new ≡ handed (λ n. n) (counted answer) number.old }
+pub fn count(answer: Result<usize, Refused>, number: &mut usize) -> Result
+    ensures value { result ≡ result_of (told answer) }
+    ensures number_after { number.new ≡ handed (λ n. n) (told answer) number.old }
 {
     match answer {
-        Count::Is(n) => {
+        Ok(n) => {
             *number = n;
             DONE
         }
-        Count::Refused(why, place) => refused(why, place),
+        Err(Refused(why, place)) => refused(why, place),
     }
 }
 
-// What is shown of a row, in six numbers: its place, how many bytes it has, its label's place, whether
+// What is told of a row, in six numbers: its place, how many bytes it has, its label's place, whether
 // its depth is known, its depth, and its outermost object's place. Where the last two are absent, they
 // stay as they were.
-pub fn row(answer: Show, numbers: &mut [usize; 6]) -> Result
-    ensures value { result ≡ result_of (shown answer) }
-    ensures numbers_after { numbers.new ≡ handed (row_numbers numbers.old) (shown answer) numbers.old }
+pub fn row(answer: Result<Shown, Refused>, numbers: &mut [usize; 6]) -> Result
+    ensures value { result ≡ result_of (told answer) }
+    ensures numbers_after { numbers.new ≡ handed (row_numbers numbers.old) (told answer) numbers.old }
 {
     match answer {
-        Show::Is(s) => {
+        Ok(s) => {
             let place = s.part.place;
             let count = s.part.count;
             let address = s.address;
@@ -126,28 +114,28 @@ pub fn row(answer: Show, numbers: &mut [usize; 6]) -> Result
                 }
             }
         }
-        Show::Refused(why, place) => refused(why, place),
+        Err(Refused(why, place)) => refused(why, place),
     }
 }
 
 // A float.
-pub fn float(answer: Decode, number: &mut f64) -> Result
-    ensures value { result ≡ result_of (decoded answer) }
-    ensures number_after { number.new ≡ handed (λ x. x) (decoded answer) number.old }
+pub fn float(answer: Result<f64, Refused>, number: &mut f64) -> Result
+    ensures value { result ≡ result_of (told answer) }
+    ensures number_after { number.new ≡ handed (λ x. x) (told answer) number.old }
 {
     match answer {
-        Decode::Is(x) => {
+        Ok(x) => {
             *number = x;
             DONE
         }
-        Decode::Refused(why, place) => refused(why, place),
+        Err(Refused(why, place)) => refused(why, place),
     }
 }
 
 // A verdict: 0 below, 1 inside, 2 above.
 pub fn side(answer: Judgement, number: &mut usize) -> Result
-    ensures value { result ≡ result_of (judged answer) }
-    ensures number_after { number.new ≡ handed side_number (judged answer) number.old }
+    ensures value { result ≡ result_of (told answer) }
+    ensures number_after { number.new ≡ handed side_number (told answer) number.old }
 {
     match answer {
         Judgement::Below => {
@@ -173,14 +161,7 @@ pub struct Stored {
     pub kind: usize,
     pub bits: usize,
     pub place: usize,
-    pub shown: usize,
-}
-
-// These numbers, or a refusal.
-#[derive(Clone, Copy)]
-pub enum Told {
-    Is(Stored),
-    Refused(Refusal, usize),
+    pub told: usize,
 }
 
 // The 64 bits of a signed number, in two's complement.
@@ -195,32 +176,32 @@ fn signed_bits(number: i64) -> usize
 }
 
 // A number that is no text.
-fn plain(kind: usize, bits: usize) -> Told
-    ensures { result ≡ Told.Is (record { kind = kind; bits = bits; place = 0; shown = 0 }) }
+fn plain(kind: usize, bits: usize) -> Result<Stored, Refused>
+    ensures { result ≡ Told.Is (record { kind = kind; bits = bits; place = 0; told = 0 }) }
 {
-    Told::Is(Stored {
+    Ok(Stored {
         kind,
         bits,
         place: 0,
-        shown: 0,
+        told: 0,
     })
 }
 
 // What a field holds, in numbers.
-pub fn in_numbers(value: Value) -> Told
-    ensures { told result ≡ mapped in_numbers (valued value) }
+pub fn in_numbers(value: Value) -> Result<Stored, Refused>
+    ensures { told result ≡ mapped in_numbers (told value) }
 {
     match value {
         Value::Unsigned(n) => plain(0, n as usize),
         Value::Signed(n) => plain(1, signed_bits(n)),
         Value::Float4(bits) => plain(2, bits as usize),
         Value::Float8(bits) => plain(3, bits),
-        Value::Text(p) => Told::Is(Stored {
+        Value::Text(p) => Ok(Stored {
             kind: 4,
             bits: 0,
             place: p.place,
-            shown: p.count,
+            told: p.count,
         }),
-        Value::Refused(why, place) => Told::Refused(why, place),
+        Value::Refused(why, place) => Err(Refused(why, place)),
     }
 }

@@ -4,14 +4,14 @@
 // `kept_rows` kind 2.
 #![tactic(auto)]
 
+ghost use Rattle.answer.specs.Told.{told};
 ghost use Rattle.std.specs.Prelude.{◌≡◌, ◌++◌, ◌+◌, ◌*◌, ◌≤◌, length, drop};
-ghost use Rattle.answer.specs.Counted.{counted};
 ghost use Rattle.answer.specs.Filled.{Writes};
 ghost use Rattle.answer.specs.Window.{bytes_at};
 ghost use Rattle.little.specs.LittleEndian.{le_number};
 ghost use Rattle.house_record.specs.Record.{in_room, number_at, entries_of, is_kept, load_as};
 
-use answer::{Count, Refusal};
+use answer::{Refusal, Refused};
 
 // The bytes of the length and the kind, in front of all else.
 pub const FRONT: usize = 6;
@@ -83,37 +83,37 @@ fn take_entries(bytes: &[u8], first: usize, count: usize, list: &mut [u32])
 
 // Reads the list that a record of this kind keeps, with so many bytes between the kind and the entries,
 // to the front of `list`, and answers how many entries it has: 13, then 8.
-pub fn load(kind: u32, between: usize, bytes: &[u8], list: &mut [u32]) -> Count
+pub fn load(kind: u32, between: usize, bytes: &[u8], list: &mut [u32]) -> Result<usize, Refused>
     ensures { Writes (load_as kind (6 + between) bytes.now (length list.old))
-        list.old (counted result) list.new }
+        list.old (told result) list.new }
 {
     if !is_record(kind, between, bytes) {
-        return Count::Refused(Refusal::BadKept, 0);
+        return Err(Refused(Refusal::BadKept, 0));
     }
     let first = FRONT + between;
     let count = (bytes.len() - first) / 4;
     if list.len() < count {
-        return Count::Refused(Refusal::Small, 0);
+        return Err(Refused(Refusal::Small, 0));
     }
     take_entries(bytes, first, count, list);
-    Count::Is(count)
+    Ok(count)
 }
 
 // Writes a record in two pieces, what stands in front of its entries and then their bytes, to the front
 // of `out`, and answers how many bytes it is; 8 where there is no room for it.
-pub fn put(front: &[u8], entries: &[u8], out: &mut [u8]) -> Count
+pub fn put(front: &[u8], entries: &[u8], out: &mut [u8]) -> Result<usize, Refused>
     ensures { Writes (in_room (length out.old) (front.now ++ entries.now))
-        out.old (counted result) out.new }
+        out.old (told result) out.new }
 {
     let at = front.len();
     if out.len() < at {
-        return Count::Refused(Refusal::Small, 0);
+        return Err(Refused(Refusal::Small, 0));
     }
     if out.len() - at < entries.len() {
-        return Count::Refused(Refusal::Small, 0);
+        return Err(Refused(Refusal::Small, 0));
     }
     let size = at + entries.len();
     out[..at].copy_from_slice(front);
     out[at..size].copy_from_slice(entries);
-    Count::Is(size)
+    Ok(size)
 }

@@ -1,22 +1,23 @@
 // Two labelled files set end to end for one roll: the index of the joined file, from the two files and
-// their indexes, with no joined file built. Renders document 02, item 10. That the joined file is
+// their indexes, with no joined file told. Renders document 02, item 10. That the joined file is
 // accepted, and which rows it has, is stated in `specs/Joining.antt`; what holds of several rolls, and
 // of the empty file, in `specs/Rolls.antt`.
 #![tactic(auto)]
 
+ghost use Rattle.answer.specs.Told.{told};
 ghost use Rattle.std.specs.Prelude.{◌≡◌, ◌++◌, ◌+◌, ◌≤◌, length, take, drop};
 ghost use Rattle.answer.specs.Outcome.{answer, mapped};
 ghost use Rattle.answer.specs.Size.{largest_file};
 ghost use Rattle.answer.specs.Filled.{filled};
 ghost use Rattle.sfdu.specs.Check.{check_labelled};
-ghost use Rattle.row_index.specs.Index.{built, index_of, built_of, build_index, check_index};
+ghost use Rattle.row_index.specs.Index.{index_of, built_of, build_index, check_index};
 ghost use Rattle.row_index.specs.Private.{the_index};
 ghost use Rattle.joined.specs.Joined.{join_index};
 ghost use Rattle.joined.specs.Private.{further};
 
-use answer::{Count, Refusal};
+use answer::{Refusal, Refused};
 use label::Versions;
-use row_index::{Build, Built};
+use row_index::Built;
 
 // Copies entries to the front of a list.
 fn put_entries(entries: &[u32], list: &mut [u32])
@@ -65,18 +66,18 @@ fn put_joined(
     other: &[u32],
     more: usize,
     list: &mut [u32],
-) -> Build
+) -> Result<Built, Refused>
     requires { (length first.now + length second.now ≤ largest_file)
         × (check_index versions first.now index.now ≡ answer tt) × (check_labelled versions first.now ≡ answer rows)
         × (check_index versions second.now other.now ≡ answer tt) × (check_labelled versions second.now ≡ answer more) }
-    ensures result_value { built result ≡ mapped built_of (build_index versions (first.now ++ second.now) (length list.old)) }
+    ensures result_value { told result ≡ mapped built_of (build_index versions (first.now ++ second.now) (length list.old)) }
     ensures list_after { list.new ≡ filled (mapped index_of (build_index versions (first.now ++ second.now) (length list.old)))
         list.old }
 {
     let all = rows + more;
     let entries = row_index::groups(all);
     if list.len() < entries {
-        return Build::Refused(Refusal::Small, 0);
+        return Err(Refused(Refusal::Small, 0));
     }
     let done = index.len();
     let passed = row_index::GROUP * done - rows;
@@ -91,7 +92,7 @@ fn put_joined(
         left,
         &mut list[done..],
     );
-    Build::Is(Built { entries, rows: all })
+    Ok(Built { entries, rows: all })
 }
 
 // The index of the joined file, where `index` is the first file's and `other` the second's: 14 of the
@@ -104,22 +105,22 @@ pub fn join_index(
     second: &[u8],
     other: &[u32],
     list: &mut [u32],
-) -> Build
-    ensures answers { built result ≡ mapped built_of (join_index versions first.now index.now
+) -> Result<Built, Refused>
+    ensures answers { told result ≡ mapped built_of (join_index versions first.now index.now
         second.now other.now (length list.old)) }
     ensures leaves { list.new ≡ filled (mapped index_of (join_index versions first.now index.now
         second.now other.now (length list.old))) list.old }
 {
     let sum = first.len() + second.len();
     if answer::LARGEST_FILE < sum {
-        return Build::Refused(Refusal::TooBig, 0);
+        return Err(Refused(Refusal::TooBig, 0));
     }
     match row_index::rows_indexed(versions, first, index) {
-        Count::Refused(why, place) => Build::Refused(why, place),
-        Count::Is(rows) => {
+        Err(Refused(why, place)) => Err(Refused(why, place)),
+        Ok(rows) => {
             match row_index::rows_indexed(versions, second, other) {
-                Count::Refused(why, place) => Build::Refused(why, place),
-                Count::Is(more) => {
+                Err(Refused(why, place)) => Err(Refused(why, place)),
+                Ok(more) => {
                     put_joined(versions, first, index, rows, second, other, more, list)
                 }
             }

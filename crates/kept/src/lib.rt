@@ -3,15 +3,15 @@
 // What the numbers stand for, and whether they are the index of some file, is left to the crates above.
 #![tactic(auto)]
 
+ghost use Rattle.answer.specs.Told.{told};
 ghost use Rattle.std.specs.Prelude.{◌≡◌, ◌++◌, ◌+◌, ◌*◌, ◌≤◌, length};
-ghost use Rattle.answer.specs.Counted.{counted};
 ghost use Rattle.answer.specs.Filled.{Writes};
 ghost use Rattle.little.specs.LittleEndian.{le};
 ghost use Rattle.house_record.specs.Record.{entry_bytes};
 ghost use Rattle.kept.specs.Kept.{keep_index, load_kept};
 ghost use Rattle.kept.specs.Private.{put_at};
 
-use answer::{Count, Refusal};
+use answer::{Refusal, Refused};
 
 // The kind's number.
 pub const KIND: u32 = 1;
@@ -57,29 +57,29 @@ fn put_entries(list: &[u32], out: &mut [u8], first: usize)
 }
 
 // Writes the kept form of a list to the front of `out`, and answers how many bytes it is: 14, then 8.
-pub fn keep(list: &[u32], out: &mut [u8]) -> Count
+pub fn keep(list: &[u32], out: &mut [u8]) -> Result<usize, Refused>
     ensures { Writes (keep_index list.now (length out.old))
-        out.old (counted result) out.new }
+        out.old (told result) out.new }
 {
     let count = list.len();
     if 1073741823 < count {
-        return Count::Refused(Refusal::TooBig, 0);
+        return Err(Refused(Refusal::TooBig, 0));
     }
     let follows = 2 + 4 * count;
     let size = 4 + follows;
     if out.len() < size {
-        return Count::Refused(Refusal::Small, 0);
+        return Err(Refused(Refusal::Small, 0));
     }
     put_head(follows as u32, KIND, out);
     put_entries(list, out, house_record::FRONT);
-    Count::Is(size)
+    Ok(size)
 }
 
 // Reads the list that a record of kind 1 keeps to the front of `list`, and answers how many entries it
 // has: 13, then 8.
-pub fn load(bytes: &[u8], list: &mut [u32]) -> Count
+pub fn load(bytes: &[u8], list: &mut [u32]) -> Result<usize, Refused>
     ensures { Writes (load_kept bytes.now (length list.old))
-        list.old (counted result) list.new }
+        list.old (told result) list.new }
 {
     house_record::load(KIND, 0, bytes, list)
 }

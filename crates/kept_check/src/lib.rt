@@ -4,19 +4,18 @@
 // to `kept_rows`.
 #![tactic(auto)]
 
+ghost use Rattle.answer.specs.Told.{told};
 ghost use Rattle.std.specs.Prelude.{◌≡◌, ◌++◌, ◌+◌, ◌*◌, ◌≤◌, length, drop};
-ghost use Rattle.answer.specs.Counted.{counted};
 ghost use Rattle.answer.specs.Filled.{Writes};
 ghost use Rattle.little.specs.LittleEndian.{le};
 ghost use Rattle.house_record.specs.Record.{entries_of};
-ghost use Rattle.row_index.specs.Index.{same, accepted};
+ghost use Rattle.row_index.specs.Index.{same};
 ghost use Rattle.row_index.specs.Private.{the_index};
 ghost use Rattle.kept_check.specs.Check.{to_kind2, check_kept2};
 ghost use Rattle.kept_check.specs.Private.{rows_borne_out};
 
-use answer::{Count, Refusal};
+use answer::{Refusal, Refused};
 use label::Versions;
-use row_index::Verified;
 
 // Whether the entries from place `first` of a record on are the file's index, where there are as many.
 fn entries_agree(versions: Versions, file: &[u8], kept: &[u8], first: usize, count: usize) -> bool
@@ -42,24 +41,24 @@ fn entries_agree(versions: Versions, file: &[u8], kept: &[u8], first: usize, cou
 
 // How many rows the file has, where a record of this kind, with so many bytes between the kind and the
 // entries, keeps its index: 14, faults, 13, 11.
-fn rows_borne_out(versions: Versions, file: &[u8], kind: u32, between: usize, kept: &[u8]) -> Count
-    ensures { counted result ≡ rows_borne_out versions kind (6 + between) file.now kept.now }
+fn rows_borne_out(versions: Versions, file: &[u8], kind: u32, between: usize, kept: &[u8]) -> Result<usize, Refused>
+    ensures { told result ≡ rows_borne_out versions kind (6 + between) file.now kept.now }
 {
     match labelled::check(versions, file) {
-        Count::Refused(why, place) => Count::Refused(why, place),
-        Count::Is(rows) => {
+        Err(Refused(why, place)) => Err(Refused(why, place)),
+        Ok(rows) => {
             if !house_record::is_record(kind, between, kept) {
-                return Count::Refused(Refusal::BadKept, 0);
+                return Err(Refused(Refusal::BadKept, 0));
             }
             let first = house_record::FRONT + between;
             let count = (kept.len() - first) / 4;
             if count != row_index::groups(rows) {
-                return Count::Refused(Refusal::BadIndex, 0);
+                return Err(Refused(Refusal::BadIndex, 0));
             }
             if entries_agree(versions, file, kept, first, count) {
-                Count::Is(rows)
+                Ok(rows)
             } else {
-                Count::Refused(Refusal::BadIndex, 0)
+                Err(Refused(Refusal::BadIndex, 0))
             }
         }
     }
@@ -67,17 +66,17 @@ fn rows_borne_out(versions: Versions, file: &[u8], kind: u32, between: usize, ke
 
 // Checks a record of kind 2 against the file: its list must be the file's index, and its count the file's
 // row count.
-pub fn check(versions: Versions, file: &[u8], kept: &[u8]) -> Verified
-    ensures { accepted result ≡ check_kept2 versions file.now kept.now }
+pub fn check(versions: Versions, file: &[u8], kept: &[u8]) -> Result<(), Refused>
+    ensures { told result ≡ check_kept2 versions file.now kept.now }
 {
     match rows_borne_out(versions, file, kept_rows::KIND, kept_rows::COUNT, kept) {
-        Count::Refused(why, place) => Verified::Refused(why, place),
-        Count::Is(rows) => {
+        Err(Refused(why, place)) => Err(Refused(why, place)),
+        Ok(rows) => {
             let told = house_record::number_at(kept, house_record::FRONT) as usize;
             if told != rows {
-                return Verified::Refused(Refusal::BadIndex, 0);
+                return Err(Refused(Refusal::BadIndex, 0));
             }
-            Verified::Right
+            Ok(())
         }
     }
 }
@@ -95,13 +94,13 @@ fn head(follows: u32, rows: u32) -> [u8; 10]
 
 // Writes a record of kind 1 that keeps the file's index as one of kind 2, with the file's row count, to
 // the front of `out`, and answers how many bytes it is: 14, faults, 13, 11, 8.
-pub fn to_kind_2(versions: Versions, file: &[u8], kept: &[u8], out: &mut [u8]) -> Count
+pub fn to_kind_2(versions: Versions, file: &[u8], kept: &[u8], out: &mut [u8]) -> Result<usize, Refused>
     ensures { Writes (to_kind2 versions file.now kept.now (length out.old))
-        out.old (counted result) out.new }
+        out.old (told result) out.new }
 {
     match rows_borne_out(versions, file, kept::KIND, 0, kept) {
-        Count::Refused(why, place) => Count::Refused(why, place),
-        Count::Is(rows) => {
+        Err(Refused(why, place)) => Err(Refused(why, place)),
+        Ok(rows) => {
             let follows = house_record::number_at(kept, 0) + 4;
             let front = head(follows, rows as u32);
             house_record::put(&front, &kept[house_record::FRONT..], out)

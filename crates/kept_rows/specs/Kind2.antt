@@ -9,8 +9,6 @@ use Rattle.little.specs.LittleEndian.{le, le_number}
 use Rattle.house_record.specs.Record.{kept_as, in_room, read_as, load_as}
 use Rattle.kept.specs.Kept.{kept_form}
 use Rattle.kept_rows.specs.declared.Loaded.{Loaded}
-use Rattle.kept_rows.specs.declared.Read.{Read}
-use Rattle.kept_rows.specs.declared.Read.TheVariants.{Is, Refused}
 
 -- what a record of kind 2 keeps: how many rows the file has, and its index
 pub record Counted : Type 0 where
@@ -44,7 +42,3 @@ loaded_of k = record { rows = k.rows; entries = length k.list }
 unfoldable pub to_kind1 : List ℕ → ℕ → Outcome (List ℕ)
 to_kind1 s room = and_then (read_kept2 s) (λ k. in_room room (kept_form k.list))
 
--- what the answer enum `Read` stands for
-abbrev pub loaded : Read → Outcome Loaded
-loaded (Is l) = answer l
-loaded (Refused why place) = refuse (number_of why) place

@@ -4,14 +4,14 @@
 // kind 2, is left to `kept_check`.
 #![tactic(auto)]
 
+ghost use Rattle.answer.specs.Told.{told};
 ghost use Rattle.std.specs.Prelude.{◌≡◌, ◌++◌, length};
 ghost use Rattle.answer.specs.Outcome.{mapped};
-ghost use Rattle.answer.specs.Counted.{counted};
 ghost use Rattle.answer.specs.Filled.{Writes, filled};
 ghost use Rattle.little.specs.LittleEndian.{le};
-ghost use Rattle.kept_rows.specs.Kind2.{list_of, loaded_of, load_kept2, to_kind1, loaded};
+ghost use Rattle.kept_rows.specs.Kind2.{list_of, loaded_of, load_kept2, to_kind1};
 
-use answer::{Count, Refusal};
+use answer::{Refusal, Refused};
 
 // The kind's number, the bytes of the row count behind it, and the place of the first entry.
 pub const KIND: u32 = 2;
@@ -27,26 +27,19 @@ pub struct Loaded {
     pub entries: usize,
 }
 
-// An index that was read with its row count, or a refusal with its place.
-#[derive(Clone, Copy)]
-pub enum Read {
-    Is(Loaded),
-    Refused(Refusal, usize),
-}
-
 // Reads the list that a record of kind 2 keeps to the front of `list`, and answers the row count and how
 // many entries there are: 13, then 8.
-pub fn load(kept: &[u8], list: &mut [u32]) -> Read
-    ensures answers { loaded result ≡ mapped loaded_of (load_kept2 kept.now (length list.old)) }
+pub fn load(kept: &[u8], list: &mut [u32]) -> Result<Loaded, Refused>
+    ensures answers { told result ≡ mapped loaded_of (load_kept2 kept.now (length list.old)) }
     ensures leaves { list.new ≡ filled (mapped list_of (load_kept2 kept.now (length list.old)))
         list.old }
 {
     match house_record::load(KIND, COUNT, kept, list) {
-        Count::Is(entries) => {
+        Ok(entries) => {
             let rows = house_record::number_at(kept, house_record::FRONT) as usize;
-            Read::Is(Loaded { rows, entries })
+            Ok(Loaded { rows, entries })
         }
-        Count::Refused(why, place) => Read::Refused(why, place),
+        Err(Refused(why, place)) => Err(Refused(why, place)),
     }
 }
 
@@ -60,12 +53,12 @@ fn head(follows: u32) -> [u8; 6]
 
 // Writes the list that a record of kind 2 keeps as a record of kind 1 to the front of `out`, and answers
 // how many bytes it is: 13, then 8.
-pub fn to_kind_1(kept: &[u8], out: &mut [u8]) -> Count
+pub fn to_kind_1(kept: &[u8], out: &mut [u8]) -> Result<usize, Refused>
     ensures { Writes (to_kind1 kept.now (length out.old))
-        out.old (counted result) out.new }
+        out.old (told result) out.new }
 {
     if !house_record::is_record(KIND, COUNT, kept) {
-        return Count::Refused(Refusal::BadKept, 0);
+        return Err(Refused(Refusal::BadKept, 0));
     }
     let follows = house_record::number_at(kept, 0) - 4;
     let front = head(follows);

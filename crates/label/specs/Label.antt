@@ -11,13 +11,6 @@ use Rattle.label.specs.Length.{Length, length_of}
 use Rattle.label.specs.declared.Version.{Version}
 use Rattle.label.specs.declared.Versions.{Versions}
 use Rattle.label.specs.declared.Label.{Label}
-use Rattle.label.specs.declared.LabelRead.{LabelRead}
-use Rattle.label.specs.declared.LabelRead.TheVariants.{Is, Refused}
-
--- what the answer enum `LabelRead` stands for
-abbrev pub told : LabelRead → Outcome Label
-told (Is l) = answer l
-told (Refused why place) = refuse (number_of why) place
 
 -- the label of this version with these first bytes, this length and so many spaces
 abbrev pub labelled : Version → List ℕ → ℕ → ℕ → Label

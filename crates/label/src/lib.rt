@@ -4,16 +4,17 @@
 // objects stand in a file, is left to the crates above.
 #![tactic(auto)]
 
+ghost use Rattle.answer.specs.Told.{told};
 ghost use Rattle.std.specs.Prelude.{◌≡◌, ◌+◌, ◌*◌, ◌≤◌, ◌<◌, ◌||◌, length as size, get_or, drop};
 ghost use Rattle.text.specs.Digits.{is_digit};
 ghost use Rattle.label.specs.Version.{version_byte, version_for};
 ghost use Rattle.label.specs.Head.{label_size, head_size, is_capital, is_agency, is_form, is_description, head_good, is_head, four_at};
 ghost use Rattle.label.specs.Length.{field_size, spaces_in, number_in, after, binary, length_of};
 ghost use Rattle.label.specs.Opened.{is_opened};
-ghost use Rattle.label.specs.Label.{told, labelled, label_as, read_label};
+ghost use Rattle.label.specs.Label.{labelled, label_as, read_label};
 ghost use Rattle.label.specs.Private.{OneNumber, field_read};
 
-use answer::Refusal;
+use answer::{Refusal, Refused};
 
 // How many bytes a label has, and how many of them stand before its length field.
 pub const LABEL: usize = 20;
@@ -57,13 +58,6 @@ pub struct Label {
     pub version: Version,
     pub class: u8,
     pub spaces: u8,
-}
-
-// A label that was read, or refusal 1, 2 or 3.
-#[derive(Clone, Copy)]
-pub enum LabelRead {
-    Is(Label),
-    Refused(Refusal, usize),
 }
 
 // A version 1 length field that was read: the length, and the spaces before its digits. `Bad` where it
@@ -248,29 +242,29 @@ fn label_with(version: Version, b: &[u8], length: usize, spaces: u8) -> Label
 }
 
 // The version 1 label that twenty bytes are.
-fn digits_label(b: &[u8]) -> LabelRead
+fn digits_label(b: &[u8]) -> Result<Label, Refused>
     requires { size b.now ≡ label_size }
     ensures { told result ≡ label_as Version.One b.now }
 {
     if !head_is_good(Version::One, b) {
-        return LabelRead::Refused(Refusal::BadLabel, 0);
+        return Err(Refused(Refusal::BadLabel, 0));
     }
     match digits_field(b) {
-        Field::Is(n, spaces) => LabelRead::Is(label_with(Version::One, b, n, spaces)),
-        Field::Bad => LabelRead::Refused(Refusal::BadLength, 0),
+        Field::Is(n, spaces) => Ok(label_with(Version::One, b, n, spaces)),
+        Field::Bad => Err(Refused(Refusal::BadLength, 0)),
     }
 }
 
 // The version 2 label that twenty bytes are.
-fn binary_label(b: &[u8]) -> LabelRead
+fn binary_label(b: &[u8]) -> Result<Label, Refused>
     requires { size b.now ≡ label_size }
     ensures { told result ≡ label_as Version.Two b.now }
 {
     if !head_is_good(Version::Two, b) {
-        return LabelRead::Refused(Refusal::BadLabel, 0);
+        return Err(Refused(Refusal::BadLabel, 0));
     }
     let n = binary_field(b);
-    LabelRead::Is(label_with(Version::Two, b, n, 0))
+    Ok(label_with(Version::Two, b, n, 0))
 }
 
 // The version as which a label with this byte 4 is read: 2 where it says so and is allowed.
@@ -287,11 +281,11 @@ fn version_for(versions: Versions, byte: u8) -> Version
 }
 
 // The label at the front of `s`: 1, 2, 3 in that order, at place 0.
-pub fn read_label(versions: Versions, s: &[u8]) -> LabelRead
+pub fn read_label(versions: Versions, s: &[u8]) -> Result<Label, Refused>
     ensures { told result ≡ read_label versions s.now }
 {
     if s.len() < LABEL {
-        return LabelRead::Refused(Refusal::Short, 0);
+        return Err(Refused(Refusal::Short, 0));
     }
     match version_for(versions, s[4]) {
         Version::One => digits_label(&s[..LABEL]),

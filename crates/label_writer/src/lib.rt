@@ -5,13 +5,13 @@
 // `specs/ReadBack.antt` and proved in `proofs/RoundTrip.antt`.
 #![tactic(auto)]
 
+ghost use Rattle.answer.specs.Told.{told};
 ghost use Rattle.std.specs.Prelude.{◌≡◌, ◌%◌, length as size};
-ghost use Rattle.answer.specs.Counted.{counted};
 ghost use Rattle.answer.specs.Filled.{Writes};
 ghost use Rattle.text.specs.Digits.{digits_of};
 ghost use Rattle.label_writer.specs.Write.{holds, bytes_of, field_of, write_label};
 
-use answer::{Count, Refusal};
+use answer::{Refusal, Refused};
 use label::Version;
 
 // The largest length that eight digits write.
@@ -92,21 +92,21 @@ fn field_of(version: Version, n: usize) -> [u8; 8]
 
 // Writes the label of this version with bytes 0-11 as lent and this length to the first 20 bytes of
 // `out`: 2, in version 1 15, then 8.
-pub fn write_label(version: Version, head: &[u8], length: usize, out: &mut [u8]) -> Count
+pub fn write_label(version: Version, head: &[u8], length: usize, out: &mut [u8]) -> Result<usize, Refused>
     ensures { Writes (write_label version head.now «length» (size out.old))
-        out.old (counted result) out.new }
+        out.old (told result) out.new }
 {
     if !label::is_head(version, head) {
-        return Count::Refused(Refusal::BadLabel, 0);
+        return Err(Refused(Refusal::BadLabel, 0));
     }
     if !can_hold(version, length) {
-        return Count::Refused(Refusal::TooLong, 0);
+        return Err(Refused(Refusal::TooLong, 0));
     }
     if out.len() < label::LABEL {
-        return Count::Refused(Refusal::Small, 0);
+        return Err(Refused(Refusal::Small, 0));
     }
     let field = field_of(version, length);
     out[..label::HEAD].copy_from_slice(head);
     out[label::HEAD..label::LABEL].copy_from_slice(&field);
-    Count::Is(label::LABEL)
+    Ok(label::LABEL)
 }

@@ -4,26 +4,25 @@
 // windows are left to the reader.
 #![tactic(auto)]
 
+ghost use Rattle.answer.specs.Told.{told};
 ghost use Rattle.std.specs.Prelude.{◌≡◌, ◌≤◌};
-ghost use Rattle.answer.specs.Counted.{counted};
 ghost use Rattle.answer.specs.Size.{largest_file};
-ghost use Rattle.answer.specs.Window.{shown};
 ghost use Rattle.sfdu.specs.Row.{whole};
 ghost use Rattle.sfdu.specs.Check.{check_labelled};
 ghost use Rattle.sfdu.specs.Find.{find_row};
 ghost use Rattle.sfdu.specs.Search.{row_marked};
 
-use answer::{Address, Count, Nesting, Part, Refusal, Show, Shown};
+use answer::{Address, Nesting, Part, Refusal, Refused, Shown};
 use label::Versions;
-use sfdu::{Mark, Search};
+use sfdu::Mark;
 
 // The check of a labelled file, with labels of these versions: how many rows it has, or its first fault.
-pub fn check(versions: Versions, file: &[u8]) -> Count
-    ensures { counted result ≡ check_labelled versions file.now }
+pub fn check(versions: Versions, file: &[u8]) -> Result<usize, Refused>
+    ensures { told result ≡ check_labelled versions file.now }
 {
     match sfdu::search_file(versions, file, 0) {
-        Search::Is(seen) => Count::Is(seen.rows),
-        Search::Fault(why, place) => Count::Refused(why, place),
+        Ok(seen) => Ok(seen.rows),
+        Err(Refused(why, place)) => Err(Refused(why, place)),
     }
 }
 
@@ -47,17 +46,17 @@ fn marked_row(mark: Mark) -> Shown
 
 // Row `k` of a labelled file, whole, read from the first byte in one pass, which also checks the file;
 // 6 where there is no such row.
-pub fn find_row(versions: Versions, file: &[u8], k: usize) -> Show
-    ensures { shown result ≡ find_row versions file.now k }
+pub fn find_row(versions: Versions, file: &[u8], k: usize) -> Result<Shown, Refused>
+    ensures { told result ≡ find_row versions file.now k }
 {
     match sfdu::search_file(versions, file, k) {
-        Search::Is(seen) => {
+        Ok(seen) => {
             if k < seen.rows {
                 let mark = seen.mark;
-                return Show::Is(marked_row(mark));
+                return Ok(marked_row(mark));
             }
-            Show::Refused(Refusal::NoRow, 0)
+            Err(Refused(Refusal::NoRow, 0))
         }
-        Search::Fault(why, place) => Show::Refused(why, place),
+        Err(Refused(why, place)) => Err(Refused(why, place)),
     }
 }

@@ -4,8 +4,8 @@
 // the programs above.
 #![tactic(auto)]
 
+ghost use Rattle.answer.specs.Told.{told};
 ghost use Rattle.std.specs.Prelude.{◌≡◌, ◌+◌, ◌≤◌, ◌<◌, ◌^◌, [], length, take};
-ghost use Rattle.answer.specs.Counted.{counted};
 ghost use Rattle.answer.specs.Outcome.{answer};
 ghost use Rattle.answer.specs.Filled.{Writes};
 ghost use Rattle.sfdu.specs.Check.{counting};
@@ -15,9 +15,9 @@ ghost use Rattle.listing.specs.Line.{head_text, end_text};
 ghost use Rattle.listing.specs.Listing.{rows_listed, row_lines, listing_of, Front};
 ghost use Rattle.listing.specs.Private.{Holds, Room, Grown, leaf_text, Puts};
 
-use answer::{Count, Refusal};
+use answer::{Refusal, Refused};
 use label::{Four, Versions};
-use walk::{Leaf, Walked};
+use walk::Leaf;
 
 // A line of text: the first `size` bytes. What stands behind them is left free.
 #[derive(Clone, Copy)]
@@ -64,15 +64,15 @@ fn with_number(line: Line, n: usize) -> Line
 }
 
 // The first line: how many rows were found, or the refusal.
-fn head_line(checked: Count) -> Line
-    ensures { Holds result (head_text (counted checked)) }
+fn head_line(checked: Result<usize, Refused>) -> Line
+    ensures { Holds result (head_text (told checked)) }
 {
     match checked {
-        Count::Is(n) => {
+        Ok(n) => {
             let rows = with_number(with(nothing(), b"rows "), n);
             with(rows, b"\n")
         }
-        Count::Refused(why, place) => {
+        Err(Refused(why, place)) => {
             let number = answer::number(why);
             let refused = with_number(with(nothing(), b"refused "), number);
             let placed = with_number(with(refused, b" "), place);
@@ -109,11 +109,11 @@ fn row_line(number: usize, leaf: Leaf) -> Line
 const LARGEST_LISTED: usize = 65536;
 
 // The check of a file that is listed.
-fn check_listed(file: &[u8]) -> Count
-    ensures { counted result ≡ counting (rows_listed file.now) }
+fn check_listed(file: &[u8]) -> Result<usize, Refused>
+    ensures { told result ≡ counting (rows_listed file.now) }
 {
     if LARGEST_LISTED < file.len() {
-        return Count::Refused(Refusal::TooBig, 0);
+        return Err(Refused(Refusal::TooBig, 0));
     }
     labelled::check(Versions::One, file)
 }
@@ -143,13 +143,13 @@ fn put_rows(file: &[u8], rows: usize, out: &mut [u8], at: usize) -> usize
     let mut number: usize = 0;
     while number < rows {
         match walk::walk_from(Versions::One, file, from, 0) {
-            Walked::Is(leaf) => {
+            Ok(leaf) => {
                 end = put(row_line(number, leaf), out, end);
                 let l = leaf.label;
                 from = leaf.place + label::LABEL + l.length;
                 number += 1;
             }
-            Walked::Refused(_, _) => {
+            Err(_) => {
                 return end;
             }
         }
@@ -166,7 +166,7 @@ pub fn write_listing(file: &[u8], out: &mut [u8; 81920]) -> usize
     let checked = check_listed(file);
     let head = put(head_line(checked), out, 0);
     match checked {
-        Count::Is(rows) => put_rows(file, rows, out, head),
-        Count::Refused(_, _) => head,
+        Ok(rows) => put_rows(file, rows, out, head),
+        Err(_) => head,
     }
 }

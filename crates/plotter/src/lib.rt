@@ -3,9 +3,9 @@
 // known of them here; a line of dots is `dot_lines`', and which byte stands behind a dot is left to `trace`.
 #![tactic(auto)]
 
+ghost use Rattle.answer.specs.Told.{told};
 ghost use Rattle.std.specs.Prelude.{◌≡◌, ◌++◌, ℕ, ◌+◌, ◌*◌, ◌≤◌, ◌<◌, length, take, drop, leb};
 ghost use Rattle.answer.specs.Outcome.{mapped};
-ghost use Rattle.answer.specs.Counted.{counted};
 ghost use Rattle.answer.specs.Filled.{Writes, filled};
 ghost use Rattle.answer.specs.Window.{bytes_at};
 ghost use Rattle.dot_lines.specs.Line.{line_bytes, line};
@@ -13,7 +13,7 @@ ghost use Rattle.reader.specs.Rows.{check_file, row_of};
 ghost use Rattle.plotter.specs.Strip.{windows_of, draw_into, strip_into};
 ghost use Rattle.plotter.specs.Private.{Starts, AllThere, start_of};
 
-use answer::{Count, Part, Refusal, Show};
+use answer::{Part, Refusal, Refused};
 use reader::Kind;
 
 // Whether `n` lines of `bytes` bytes have room in `size` bytes, with no product that could be too large.
@@ -28,50 +28,50 @@ fn has_room(n: usize, bytes: usize, size: usize) -> bool
 
 // Where going on to row `first` starts: at the end of the row before it, or where the rows begin. One pass over
 // the file, which also checks it; 6 where the row before it is missing.
-fn start_of(kind: Kind, file: &[u8], first: usize) -> Count
-    ensures { counted result ≡ start_of kind file.now first }
+fn start_of(kind: Kind, file: &[u8], first: usize) -> Result<usize, Refused>
+    ensures { told result ≡ start_of kind file.now first }
 {
     if first == 0 {
         return match reader::check(kind, file) {
-            Count::Is(_) => Count::Is(reader::beginning(kind)),
-            Count::Refused(why, place) => Count::Refused(why, place),
+            Ok(_) => Ok(reader::beginning(kind)),
+            Err(Refused(why, place)) => Err(Refused(why, place)),
         };
     }
     match reader::whole_row(kind, file, first - 1) {
-        Show::Is(row) => {
+        Ok(row) => {
             let end = row.part.place + row.part.count;
-            Count::Is(end)
+            Ok(end)
         }
-        Show::Refused(why, place) => Count::Refused(why, place),
+        Err(Refused(why, place)) => Err(Refused(why, place)),
     }
 }
 
 // Whether all rows of a strip are there and the window fits each of them: how many rows it has, or its
 // refusal. Each row is found from the end of the one before it.
-fn judge(kind: Kind, file: &[u8], start: usize, rows: usize, a: usize, c: usize) -> Count
+fn judge(kind: Kind, file: &[u8], start: usize, rows: usize, a: usize, c: usize) -> Result<usize, Refused>
     requires { (first : ℕ) × Starts kind file.now first start }
     ensures { (first : ℕ) → Starts kind file.now first start
-        → counted result ≡ mapped length (windows_of (row_of kind file.now) first rows a c) }
+        → told result ≡ mapped length (windows_of (row_of kind file.now) first rows a c) }
 {
     let mut fit = true;
     let mut from = start;
     let mut found: usize = 0;
     while found < rows {
         match reader::row_from(kind, file, from) {
-            Show::Is(row) => {
+            Ok(row) => {
                 fit = fit & answer::window_fits(row.part.count, a, c);
                 from = row.part.place + row.part.count;
                 found += 1;
             }
-            Show::Refused(why, place) => {
-                return Count::Refused(why, place);
+            Err(Refused(why, place)) => {
+                return Err(Refused(why, place));
             }
         }
     }
     if fit {
-        return Count::Is(rows);
+        return Ok(rows);
     }
-    Count::Refused(Refusal::NoPart, 0)
+    Err(Refused(Refusal::NoPart, 0))
 }
 
 // Draws line `y`, of the `c` bytes at `place`, at byte `at` of `out`.
@@ -94,13 +94,13 @@ fn draw(kind: Kind, file: &[u8], start: usize, rows: usize, a: usize, c: usize, 
     let mut y: usize = 0;
     while y < rows {
         match reader::row_from(kind, file, next) {
-            Show::Is(row) => {
+            Ok(row) => {
                 let place = row.part.place + a;
                 draw_row(file, place, c, y, y * bytes, out);
                 next = row.part.place + row.part.count;
                 y += 1;
             }
-            Show::Refused(_, _) => {
+            Err(_) => {
                 return;
             }
         }
@@ -116,31 +116,31 @@ fn strip_from(
     a: usize,
     c: usize,
     out: &mut [u8],
-) -> Count
+) -> Result<usize, Refused>
     requires { (first : ℕ) × Starts kind file.now first start }
     ensures { (first : ℕ) → Starts kind file.now first start
-        → Writes (draw_into (length out.old) file.now (row_of kind file.now) first rows a c 0) out.old (counted result) out.new }
+        → Writes (draw_into (length out.old) file.now (row_of kind file.now) first rows a c 0) out.old (told result) out.new }
 {
     match judge(kind, file, start, rows, a, c) {
-        Count::Is(_) => {
+        Ok(_) => {
             let bytes = dot_lines::line_bytes(c);
             if has_room(rows, bytes, out.len()) {
                 draw(kind, file, start, rows, a, c, out);
-                return Count::Is(rows * bytes);
+                return Ok(rows * bytes);
             }
-            Count::Refused(Refusal::Small, 0)
+            Err(Refused(Refusal::Small, 0))
         }
-        Count::Refused(why, place) => Count::Refused(why, place),
+        Err(Refused(why, place)) => Err(Refused(why, place)),
     }
 }
 
 // What a strip of no rows answers.
-fn nothing(kind: Kind, file: &[u8]) -> Count
-    ensures { counted result ≡ mapped (λ _. 0) (check_file kind file.now) }
+fn nothing(kind: Kind, file: &[u8]) -> Result<usize, Refused>
+    ensures { told result ≡ mapped (λ _. 0) (check_file kind file.now) }
 {
     match reader::check(kind, file) {
-        Count::Is(_) => Count::Is(0),
-        Count::Refused(why, place) => Count::Refused(why, place),
+        Ok(_) => Ok(0),
+        Err(Refused(why, place)) => Err(Refused(why, place)),
     }
 }
 
@@ -154,14 +154,14 @@ pub fn strip(
     a: usize,
     c: usize,
     out: &mut [u8],
-) -> Count
-    ensures { Writes (strip_into (length out.old) kind file.now first rows a c) out.old (counted result) out.new }
+) -> Result<usize, Refused>
+    ensures { Writes (strip_into (length out.old) kind file.now first rows a c) out.old (told result) out.new }
 {
     if rows == 0 {
         return nothing(kind, file);
     }
     match start_of(kind, file, first) {
-        Count::Is(start) => strip_from(kind, file, start, rows, a, c, out),
-        Count::Refused(why, place) => Count::Refused(why, place),
+        Ok(start) => strip_from(kind, file, start, rows, a, c, out),
+        Err(Refused(why, place)) => Err(Refused(why, place)),
     }
 }

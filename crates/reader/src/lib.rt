@@ -6,14 +6,14 @@
 // written jumps by the kind's own function, which costs less.
 #![tactic(auto)]
 
+ghost use Rattle.answer.specs.Told.{told};
 ghost use Rattle.std.specs.Prelude.{◌≡◌, [], ◌+◌, ◌≤◌};
 ghost use Rattle.answer.specs.Outcome.{answer, and_then};
-ghost use Rattle.answer.specs.Counted.{counted};
-ghost use Rattle.answer.specs.Window.{shown, window_in};
+ghost use Rattle.answer.specs.Window.{window_in};
 ghost use Rattle.reader.specs.Rows.{check_file};
 ghost use Rattle.reader.specs.Read.{find_row, read_row, jump_row, row_from, beginning as beginning_of};
 
-use answer::{Address, Count, Part, Refusal, Show, Shown};
+use answer::{Address, Part, Refusal, Refused, Shown};
 use label::Versions;
 
 // The kinds of file.
@@ -28,8 +28,8 @@ pub enum Kind {
 }
 
 // How many rows a file has, or its first fault.
-pub fn check(kind: Kind, file: &[u8]) -> Count
-    ensures { counted result ≡ check_file kind file.now }
+pub fn check(kind: Kind, file: &[u8]) -> Result<usize, Refused>
+    ensures { told result ≡ check_file kind file.now }
 {
     match kind {
         Kind::Labelled(versions) => labelled::check(versions, file),
@@ -39,8 +39,8 @@ pub fn check(kind: Kind, file: &[u8]) -> Count
 }
 
 // Row `k`, whole, found from the first byte.
-fn find_row(kind: Kind, file: &[u8], k: usize) -> Show
-    ensures { shown result ≡ find_row kind file.now k }
+fn find_row(kind: Kind, file: &[u8], k: usize) -> Result<Shown, Refused>
+    ensures { told result ≡ find_row kind file.now k }
 {
     match kind {
         Kind::Labelled(versions) => labelled::find_row(versions, file, k),
@@ -50,46 +50,46 @@ fn find_row(kind: Kind, file: &[u8], k: usize) -> Show
 }
 
 // The window of `c` bytes from byte `a` on of a row that was found, or 7. The row's address stays.
-fn window_in(row: Show, a: usize, c: usize) -> Show
-    requires { (s : Shown) → shown row ≡ answer s → s.part.place + s.part.count ≤ 9223372036854775807 }
-    ensures { shown result ≡ and_then (shown row) (window_in a c) }
+fn window_in(row: Result<Shown, Refused>, a: usize, c: usize) -> Result<Shown, Refused>
+    requires { (s : Shown) → told row ≡ answer s → s.part.place + s.part.count ≤ 9223372036854775807 }
+    ensures { told result ≡ and_then (told row) (window_in a c) }
 {
     match row {
-        Show::Is(found) => {
+        Ok(found) => {
             if answer::window_fits(found.part.count, a, c) {
                 let place = found.part.place + a;
                 let address = found.address;
                 let label = address.label;
                 let nesting = address.nesting;
-                return Show::Is(Shown {
+                return Ok(Shown {
                     part: Part { place, count: c },
                     address: Address { label, nesting },
                 });
             }
-            Show::Refused(Refusal::NoPart, 0)
+            Err(Refused(Refusal::NoPart, 0))
         }
-        Show::Refused(why, place) => Show::Refused(why, place),
+        Err(Refused(why, place)) => Err(Refused(why, place)),
     }
 }
 
 // The window of row `k`, read from the first byte.
-pub fn read_row(kind: Kind, file: &[u8], k: usize, a: usize, c: usize) -> Show
-    ensures { shown result ≡ read_row kind file.now k a c }
+pub fn read_row(kind: Kind, file: &[u8], k: usize, a: usize, c: usize) -> Result<Shown, Refused>
+    ensures { told result ≡ read_row kind file.now k a c }
 {
     window_in(find_row(kind, file, k), a, c)
 }
 
 // Row `k` of a labelled file, whole, found from the first byte.
-pub fn find_labelled(versions: Versions, file: &[u8], k: usize) -> Show
-    ensures { shown result ≡ find_row (Kind.Labelled versions) file.now k }
+pub fn find_labelled(versions: Versions, file: &[u8], k: usize) -> Result<Shown, Refused>
+    ensures { told result ≡ find_row (Kind.Labelled versions) file.now k }
 {
     labelled::find_row(versions, file, k)
 }
 
 // Row `k`, whole: of a labelled file found from the first byte, of rows of one size by computing its place, which by
 // demand 3 is where reading finds it.
-pub fn whole_row(kind: Kind, file: &[u8], k: usize) -> Show
-    ensures { shown result ≡ find_row kind file.now k }
+pub fn whole_row(kind: Kind, file: &[u8], k: usize) -> Result<Shown, Refused>
+    ensures { told result ≡ find_row kind file.now k }
 {
     match kind {
         Kind::Labelled(versions) => labelled::find_row(versions, file, k),
@@ -106,29 +106,29 @@ pub fn jump_labelled(
     k: usize,
     a: usize,
     c: usize,
-) -> Show
-    ensures { shown result ≡ jump_row (Kind.Labelled versions) file.now list.now k a c }
+) -> Result<Shown, Refused>
+    ensures { told result ≡ jump_row (Kind.Labelled versions) file.now list.now k a c }
 {
     window_in(row_index::jump_to(versions, file, list, k), a, c)
 }
 
 // The window of row `k` of a waveform file, jumped to with no list.
-pub fn jump_waveform(file: &[u8], k: usize, a: usize, c: usize) -> Show
-    ensures { shown result ≡ jump_row Kind.Waveform file.now [] k a c }
+pub fn jump_waveform(file: &[u8], k: usize, a: usize, c: usize) -> Result<Shown, Refused>
+    ensures { told result ≡ jump_row Kind.Waveform file.now [] k a c }
 {
     window_in(waveform::jump_to(file, k), a, c)
 }
 
 // The window of record `k` of bursts that begin at `first`, jumped to with no list.
-pub fn jump_bursts(file: &[u8], first: usize, k: usize, a: usize, c: usize) -> Show
-    ensures { shown result ≡ jump_row (Kind.Bursts first) file.now [] k a c }
+pub fn jump_bursts(file: &[u8], first: usize, k: usize, a: usize, c: usize) -> Result<Shown, Refused>
+    ensures { told result ≡ jump_row (Kind.Bursts first) file.now [] k a c }
 {
     window_in(bursts::jump_to(file, first, k), a, c)
 }
 
 // The window of row `k`, jumped to by the list. Only a labelled file needs one.
-pub fn jump_row(kind: Kind, file: &[u8], list: &[u32], k: usize, a: usize, c: usize) -> Show
-    ensures { shown result ≡ jump_row kind file.now list.now k a c }
+pub fn jump_row(kind: Kind, file: &[u8], list: &[u32], k: usize, a: usize, c: usize) -> Result<Shown, Refused>
+    ensures { told result ≡ jump_row kind file.now list.now k a c }
 {
     match kind {
         Kind::Labelled(versions) => jump_labelled(versions, file, list, k, a, c),
@@ -151,8 +151,8 @@ pub fn beginning(kind: Kind) -> usize
 // Going on: the first whole row from a place on, of a labelled file without its depth. From 0, in bursts from the first record's place, it is
 // row 0; from the end of one row's bytes, the next row. A strip of n rows is read so in time that grows
 // with the strip and not with the file.
-pub fn row_from(kind: Kind, file: &[u8], from: usize) -> Show
-    ensures { shown result ≡ row_from kind file.now from }
+pub fn row_from(kind: Kind, file: &[u8], from: usize) -> Result<Shown, Refused>
+    ensures { told result ≡ row_from kind file.now from }
 {
     match kind {
         Kind::Labelled(versions) => walk::row_from(versions, file, from, 0),

@@ -9,10 +9,6 @@ use Rattle.sfdu.specs.Row.{Row}
 use Rattle.sfdu.specs.Check.{rows_of_file}
 use Rattle.walk.specs.declared.Leaf.{Leaf}
 use Rattle.row_index.specs.declared.Built.{Built}
-use Rattle.row_index.specs.declared.Build.{Build}
-use Rattle.row_index.specs.declared.Build.TheVariants as build
-use Rattle.row_index.specs.declared.Verified.{Verified}
-use Rattle.row_index.specs.declared.Verified.TheVariants as verified
 
 -- how many rows an entry stands for
 abbrev pub group_size : ℕ
@@ -52,11 +48,3 @@ abbrev pub place_found : Outcome Leaf → ℕ
 place_found (answer x) = x.place
 place_found (refuse n p) = 0
 
--- what the answer enums stand for
-abbrev pub built : Build → Outcome Built
-built (build.Is b) = answer b
-built (build.Refused why place) = refuse (number_of why) place
-
-abbrev pub accepted : Verified → Outcome Unit
-accepted verified.Right = answer tt
-accepted (verified.Refused why place) = refuse (number_of why) place

@@ -1,23 +1,21 @@
-// The index of a labelled file, built, checked, and the jump to a row by it. Renders document 01,
+// The index of a labelled file, told, checked, and the jump to a row by it. Renders document 01,
 // "The index and the jump"; the kept form of an index is a crate of its own, and windows are left to
 // the reader.
 #![tactic(auto)]
 
+ghost use Rattle.answer.specs.Told.{told};
 ghost use Rattle.std.specs.Prelude.{◌≡◌, ◌+◌, ◌/◌, ◌≤◌, ◌++◌, length, take, drop};
 ghost use Rattle.answer.specs.Outcome.{and_then, mapped};
-ghost use Rattle.answer.specs.Counted.{counted};
 ghost use Rattle.answer.specs.Size.{largest_file};
 ghost use Rattle.answer.specs.Filled.{filled};
-ghost use Rattle.answer.specs.Window.{shown};
 ghost use Rattle.sfdu.specs.Check.{check_labelled};
 ghost use Rattle.walk.specs.Walk.{walk_from};
-ghost use Rattle.row_index.specs.Index.{built, index_of, built_of, build_index, same, accepted, check_index, place_found};
+ghost use Rattle.row_index.specs.Index.{index_of, built_of, build_index, same, check_index, place_found};
 ghost use Rattle.row_index.specs.Jump.{jump_to};
 ghost use Rattle.row_index.specs.Private.{the_index};
 
-use answer::{Count, Refusal, Show};
+use answer::{Refusal, Refused};
 use label::Versions;
-use walk::Walked;
 
 // How many rows an entry stands for.
 pub const GROUP: usize = 16;
@@ -29,34 +27,20 @@ pub struct Built {
     pub rows: usize,
 }
 
-// An index that was built, or a refusal with its place.
-#[derive(Clone, Copy)]
-pub enum Build {
-    Is(Built),
-    Refused(Refusal, usize),
-}
-
-// A list that is the file's index, or a refusal with its place.
-#[derive(Clone, Copy)]
-pub enum Verified {
-    Right,
-    Refused(Refusal, usize),
-}
-
 // Row k, whole, by the list: the entry of its group of sixteen, and then a walk. Its depth is absent.
-pub fn jump_to(versions: Versions, file: &[u8], list: &[u32], k: usize) -> Show
-    ensures { shown result ≡ jump_to versions file.now list.now k }
+pub fn jump_to(versions: Versions, file: &[u8], list: &[u32], k: usize) -> Result<Shown, Refused>
+    ensures { told result ≡ jump_to versions file.now list.now k }
 {
     if answer::LARGEST_FILE < file.len() {
-        return Show::Refused(Refusal::TooBig, 0);
+        return Err(Refused(Refusal::TooBig, 0));
     }
     let group = k / GROUP;
     if list.len() <= group {
-        return Show::Refused(Refusal::NoRow, 0);
+        return Err(Refused(Refusal::NoRow, 0));
     }
     let entry = list[group] as usize;
     if file.len() < entry {
-        return Show::Refused(Refusal::BadIndex, 0);
+        return Err(Refused(Refusal::BadIndex, 0));
     }
     walk::row_from(versions, file, entry, k % GROUP)
 }
@@ -66,8 +50,8 @@ pub fn entry_from(versions: Versions, file: &[u8], from: usize, leaves: usize) -
     ensures { (result ≡ place_found (walk_from versions file.now from leaves)) × (result ≤ length file.now) }
 {
     match walk::walk_from(versions, file, from, leaves) {
-        Walked::Is(leaf) => leaf.place,
-        Walked::Refused(_, _) => 0,
+        Ok(leaf) => leaf.place,
+        Err(_) => 0,
     }
 }
 
@@ -121,49 +105,49 @@ pub fn groups(rows: usize) -> usize
 }
 
 // Builds the index: writes its entries to the front of the list, and leaves the rest as it is.
-pub fn build_index(versions: Versions, file: &[u8], list: &mut [u32]) -> Build
-    ensures answers { built result ≡ mapped built_of (build_index versions file.now (length list.old)) }
+pub fn build_index(versions: Versions, file: &[u8], list: &mut [u32]) -> Result<Built, Refused>
+    ensures answers { told result ≡ mapped built_of (build_index versions file.now (length list.old)) }
     ensures leaves { list.new ≡ filled (mapped index_of (build_index versions file.now (length list.old)))
         list.old }
 {
     match labelled::check(versions, file) {
-        Count::Refused(why, place) => Build::Refused(why, place),
-        Count::Is(rows) => {
+        Err(Refused(why, place)) => Err(Refused(why, place)),
+        Ok(rows) => {
             let entries = groups(rows);
             if list.len() < entries {
-                return Build::Refused(Refusal::Small, 0);
+                return Err(Refused(Refusal::Small, 0));
             }
             write_entries(versions, file, entries, list);
-            Build::Is(Built { entries, rows })
+            Ok(Built { entries, rows })
         }
     }
 }
 
 // How many rows the file has, where the list is its index, entry for entry: 14, faults, 11.
-pub fn rows_indexed(versions: Versions, file: &[u8], list: &[u32]) -> Count
-    ensures { counted result ≡ and_then (check_index versions file.now list.now) (λ _. check_labelled versions file.now) }
+pub fn rows_indexed(versions: Versions, file: &[u8], list: &[u32]) -> Result<usize, Refused>
+    ensures { told result ≡ and_then (check_index versions file.now list.now) (λ _. check_labelled versions file.now) }
 {
     match labelled::check(versions, file) {
-        Count::Refused(why, place) => Count::Refused(why, place),
-        Count::Is(rows) => {
+        Err(Refused(why, place)) => Err(Refused(why, place)),
+        Ok(rows) => {
             if list.len() != groups(rows) {
-                return Count::Refused(Refusal::BadIndex, 0);
+                return Err(Refused(Refusal::BadIndex, 0));
             }
             if entries_agree(versions, file, list) {
-                Count::Is(rows)
+                Ok(rows)
             } else {
-                Count::Refused(Refusal::BadIndex, 0)
+                Err(Refused(Refusal::BadIndex, 0))
             }
         }
     }
 }
 
 // Checks a list against the file: it must be the file's index, entry for entry.
-pub fn check_index(versions: Versions, file: &[u8], list: &[u32]) -> Verified
-    ensures { accepted result ≡ check_index versions file.now list.now }
+pub fn check_index(versions: Versions, file: &[u8], list: &[u32]) -> Result<(), Refused>
+    ensures { told result ≡ check_index versions file.now list.now }
 {
     match rows_indexed(versions, file, list) {
-        Count::Refused(why, place) => Verified::Refused(why, place),
-        Count::Is(_) => Verified::Right,
+        Err(Refused(why, place)) => Err(Refused(why, place)),
+        Ok(_) => Ok(()),
     }
 }

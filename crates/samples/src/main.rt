@@ -7,14 +7,14 @@
 // row); and rows of two files, an original and its substitute, with their bytes.
 #![tactic(auto)]
 
-use answer::{Address, Count, Nesting, Part, Refusal, Show, Shown};
+use answer::{Address, Nesting, Part, Refusal, Refused, Shown};
 use label::Versions;
 use orbit::Open;
 use reader::Kind;
 use std::fs::File;
 use std::io;
 use std::io::Write;
-use substitute::{Choice, Chosen, Source};
+use substitute::{Chosen, Source};
 
 // How many bytes a waveform row has.
 const ROW: usize = 2080;
@@ -100,9 +100,9 @@ fn print_nesting(rt: &HostRuntime, nesting: Nesting) -> io::Result<()> {
 }
 
 // Prints what is shown of a row, place, count and address, or the refusal.
-fn print_shown(rt: &HostRuntime, shown: Show) -> io::Result<()> {
+fn print_shown(rt: &HostRuntime, shown: Result<Shown, Refused>) -> io::Result<()> {
     match shown {
-        Show::Is(row) => {
+        Ok(row) => {
             print_number(rt, row.part.place)?;
             print_number(rt, row.part.count)?;
             let address = row.address;
@@ -110,7 +110,7 @@ fn print_shown(rt: &HostRuntime, shown: Show) -> io::Result<()> {
             let nesting = address.nesting;
             print_nesting(rt, nesting)?;
         }
-        Show::Refused(why, place) => print_refusal(rt, why, place)?,
+        Err(Refused(why, place)) => print_refusal(rt, why, place)?,
     }
     Ok(())
 }
@@ -133,8 +133,8 @@ fn print_both_versions(rt: &HostRuntime, name: &str) -> io::Result<()> {
     input::read_up_to(&mut file, &mut memory);
     print(rt, b"both versions:")?;
     match reader::check(Kind::Labelled(Versions::OneAndTwo), &memory) {
-        Count::Is(rows) => print_number(rt, rows)?,
-        Count::Refused(why, place) => print_refusal(rt, why, place)?,
+        Ok(rows) => print_number(rt, rows)?,
+        Err(Refused(why, place)) => print_refusal(rt, why, place)?,
     }
     print(rt, b"\n")?;
     print_row(rt, &memory, 0)?;
@@ -186,8 +186,8 @@ fn print_either<'a>(
     print_number(rt, k)?;
     print(rt, b":")?;
     match substitute::read_row(Versions::One, original, substitute, k) {
-        Choice::Is(found) => print_chosen(rt, original, substitute, found)?,
-        Choice::Refused(why, place) => {
+        Ok(found) => print_chosen(rt, original, substitute, found)?,
+        Err(Refused(why, place)) => {
             print_refusal(rt, why, place)?;
             print(rt, b"\n")?;
         }

@@ -1,10 +1,9 @@
 -- A row of a labelled file and its address (document 01: "The rows of a labelled file are its leaves in file order,
 -- numbered from 0; the bytes of a row are the leaf's value").
-use Rattle.std.specs.Prelude.{ℕ, ◌+◌, ◌≤◌, ◌≡◌, ◌↔◌, List}
+use Rattle.std.specs.Prelude.{ℕ, ◌+◌, ◌≤◌, ◌≡◌, ◌↔◌, List, Some}
 use Rattle.answer.specs.Window.{bytes_at}
 use Rattle.answer.specs.declared.Part.{Part}
 use Rattle.answer.specs.declared.Shown.{Shown}
-use Rattle.answer.specs.declared.Nesting.TheVariants.{Known}
 use Rattle.label.specs.Head.{label_size}
 
 pub record Row : Type 0 where
@@ -32,7 +31,7 @@ value_of r = record { place = value_at r; count = r.size }
 -- a row as it is answered, whole and with its address (document 02, item 8: "the place of its label, its depth, and the place of the
 -- outermost object it lies in")
 abbrev pub whole : Row → Shown
-whole r = record { part = value_of r; address = record { label = r.label; nesting = Known r.depth r.outermost } }
+whole r = record { part = value_of r; address = record { label = r.label; nesting = Some (record { depth = r.depth; outermost = r.outermost }) } }
 
 -- what an address says of a row of an accepted file (document 02, item 8: "the place of the outermost object it lies in (itself at depth
 -- 1)"; document 01: "labels of any class may stand at depths 1 to 8")

@@ -7,8 +7,6 @@ use Rattle.answer.specs.Size.{largest_file}
 use Rattle.sfdu.specs.Row.{Row}
 use Rattle.sfdu.specs.declared.Mark.{Mark}
 use Rattle.sfdu.specs.declared.Seen.{Seen}
-use Rattle.sfdu.specs.declared.Search.{Search}
-use Rattle.sfdu.specs.declared.Search.TheVariants.{Is, Fault}
 
 -- a row as the struct `Mark`, and back
 abbrev pub mark_of : Row → Mark
@@ -27,11 +25,6 @@ see_row k s r = record { rows = s.rows + 1; mark = cond (eqb s.rows k) (mark_of 
 abbrev pub see_all : ℕ → Seen → List Row → Seen
 see_all k s [] = s
 see_all k s (r ∷ rs) = see_all k (see_row k s r) rs
-
--- what the enum `Search` stands for
-abbrev pub searched : Search → Outcome Seen
-searched (Is seen) = answer seen
-searched (Fault why place) = refuse (number_of why) place
 
 -- what was seen was marked inside a file
 abbrev pub MarksInside : Outcome Seen → Type 0

@@ -4,15 +4,16 @@
 // calls by it, the forward walk, indexes and windows are left to the crates above.
 #![tactic(auto)]
 
+ghost use Rattle.answer.specs.Told.{told};
 ghost use Rattle.std.specs.Prelude.{◌≡◌, ◌+◌, ◌-◌, ◌≤◌, ◌<◌, length};
 ghost use Rattle.answer.specs.Size.{largest_file};
 ghost use Rattle.answer.specs.Outcome.{mapped};
 ghost use Rattle.sfdu.specs.Check.{rows_of_file};
-ghost use Rattle.sfdu.specs.Search.{nothing_seen, see_all, searched, MarksInside};
+ghost use Rattle.sfdu.specs.Search.{nothing_seen, see_all, MarksInside};
 ghost use Rattle.sfdu.specs.Private.{Stands, outermost_by, Searched};
 
-use answer::Refusal;
-use label::{LabelRead, Versions};
+use answer::{Refusal, Refused};
+use label::Versions;
 
 // The depths at which labels may stand.
 const DEPTHS: usize = 8;
@@ -32,8 +33,8 @@ fn object_at(versions: Versions, part: &[u8], at: usize) -> Object
     ensures { Stands versions part.now at result }
 {
     match label::read_label(versions, &part[at..]) {
-        LabelRead::Refused(why, _) => Object::Fault(why),
-        LabelRead::Is(l) => {
+        Err(Refused(why, _)) => Object::Fault(why),
+        Ok(l) => {
             let body = at + label::LABEL;
             let room = part.len() - body;
             if room < l.length {
@@ -62,13 +63,6 @@ pub struct Mark {
 pub struct Seen {
     pub rows: usize,
     pub mark: Mark,
-}
-
-// What a search has seen at its end, or the fault that it met.
-#[derive(Clone, Copy)]
-pub enum Search {
-    Is(Seen),
-    Fault(Refusal, usize),
 }
 
 // The outermost object that the objects of a part lie in: each in itself, or all in the one at a place.
@@ -114,15 +108,15 @@ fn search_part(
     outer: Outer,
     k: usize,
     earlier: Seen,
-) -> Search
+) -> Result<Seen, Refused>
     requires { (base + length part.now ≤ largest_file) × (left ≤ 8) × (earlier.rows ≤ base) × (earlier.mark.label ≤ base) }
-    ensures { Searched versions part.now base left (outermost_by outer) k earlier (searched result) }
+    ensures { Searched versions part.now base left (outermost_by outer) k earlier (told result) }
 {
     if part.len() == 0 {
-        return Search::Is(earlier);
+        return Ok(earlier);
     }
     if left == 0 {
-        return Search::Fault(Refusal::Deep, base);
+        return Err(Refused(Refusal::Deep, base));
     }
     let mut at: usize = 0;
     let mut rows = earlier.rows;
@@ -131,7 +125,7 @@ fn search_part(
         let place = base + at;
         match object_at(versions, part, at) {
             Object::Fault(why) => {
-                return Search::Fault(why, place);
+                return Err(Refused(why, place));
             }
             Object::Leaf(next) => {
                 if rows == k {
@@ -147,10 +141,10 @@ fn search_part(
                 let top = Outer::At(outermost(outer, place));
                 let seen = Seen { rows, mark };
                 match search_part(versions, &part[body..end], inside, left - 1, top, k, seen) {
-                    Search::Fault(why, where_) => {
-                        return Search::Fault(why, where_);
+                    Err(Refused(why, where_)) => {
+                        return Err(Refused(why, where_));
                     }
-                    Search::Is(more) => {
+                    Ok(more) => {
                         rows = more.rows;
                         mark = more.mark;
                         at = end;
@@ -159,15 +153,15 @@ fn search_part(
             }
         }
     }
-    Search::Is(Seen { rows, mark })
+    Ok(Seen { rows, mark })
 }
 
 // Searches a whole file for row `k`: 14, then its first fault.
-pub fn search_file(versions: Versions, file: &[u8], k: usize) -> Search
-    ensures { (searched result ≡ mapped (see_all k nothing_seen) (rows_of_file versions file.now)) × MarksInside (searched result) }
+pub fn search_file(versions: Versions, file: &[u8], k: usize) -> Result<Seen, Refused>
+    ensures { (told result ≡ mapped (see_all k nothing_seen) (rows_of_file versions file.now)) × MarksInside (told result) }
 {
     if answer::LARGEST_FILE < file.len() {
-        return Search::Fault(Refusal::TooBig, 0);
+        return Err(Refused(Refusal::TooBig, 0));
     }
     let mark = Mark {
         label: 0,

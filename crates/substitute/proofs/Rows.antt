@@ -10,9 +10,9 @@ use lib.ListN.{length, drop, length-drop}
 use lib.Seq.{length-take-le}
 use lib.Dec.{ltb}
 use borrow.Author.Tests.{lt-ltb, le-ltb}
+use Rattle.answer.specs.Told.{told}
 use Rattle.answer.specs.Outcome.{Outcome, answer, refuse, and_then, mapped}
 use Rattle.answer.specs.Nth.{nth}
-use Rattle.answer.specs.Window.{shown}
 use Rattle.answer.specs.declared.Shown.{Shown}
 use Rattle.answer.specs.declared.Show.{Show}
 use Rattle.answer.proofs.Outcomes.{first_answered}
@@ -50,14 +50,14 @@ module _ {A : Type 0} where
 
 module _ (kind : Kind) (f : List ℕ) (k : ℕ) where
   -- what reading answers or refuses is the row as demand 2 gives it
-  pub found_is_row : {r s : Show} → shown r ≡ find_row kind f k → r ≡ s → row_of kind f k ≡ shown s
-  found_is_row found is = sym (found ∙ reads_the_rows kind f k) ∙ ap shown is
+  pub found_is_row : {r s : Show} → told r ≡ find_row kind f k → r ≡ s → row_of kind f k ≡ told s
+  found_is_row found is = sym (found ∙ reads_the_rows kind f k) ∙ ap told is
 
   pub has_where_read : has (check_file kind f) k ≡ answers (row_of kind f k)
   unfolding row_of
   has_where_read = ap (λ (o : Outcome ℕ). has o k) (demand_2 kind f).counts ∙ has_where_answered (row_parts kind f) k
 
-  -- the bytes of a row that is shown are those of the row in the division
+  -- the bytes of a row that is told are those of the row in the division
   bytes_of_the_row : (row : Shown) → row_of kind f k ≡ answer row → (d : Division kind) → Divides kind f d → nth (bytes_in kind d) k ≡ answer (shown_bytes f row)
   unfolding row_of
   bytes_of_the_row row e d divides =

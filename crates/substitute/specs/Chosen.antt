@@ -6,8 +6,6 @@ use Rattle.answer.specs.declared.Shown.{Shown}
 use Rattle.substitute.specs.declared.Source.{Source}
 use Rattle.substitute.specs.declared.Source.TheVariants.{Original, Substitute}
 use Rattle.substitute.specs.declared.Chosen.{Chosen}
-use Rattle.substitute.specs.declared.Choice.{Choice}
-use Rattle.substitute.specs.declared.Choice.TheVariants.{Is, Refused}
 
 -- the number of each at the C boundary
 abbrev pub source_number : Source → ℕ
@@ -23,7 +21,3 @@ file_named Substitute original substitute = substitute
 abbrev pub from : Source → Shown → Chosen
 from source row = record { source = source; row = row }
 
--- what the answer enum `Choice` stands for
-abbrev pub chosen : Choice → Outcome Chosen
-chosen (Is row) = answer row
-chosen (Refused why place) = refuse (number_of why) place

@@ -3,14 +3,15 @@
 // by `reader`, whose promises are all that is known of them here.
 #![tactic(auto)]
 
+ghost use Rattle.answer.specs.Told.{told};
 ghost use Rattle.std.specs.Prelude.{◌≡◌};
 ghost use Rattle.answer.specs.Outcome.{mapped};
 ghost use Rattle.answer.specs.Window.{bytes_at};
 ghost use Rattle.reader.specs.Rows.{row_of};
-ghost use Rattle.substitute.specs.Chosen.{from, file_named, chosen};
+ghost use Rattle.substitute.specs.Chosen.{from, file_named};
 ghost use Rattle.substitute.specs.Substitute.{read_either};
 
-use answer::{Refusal, Show, Shown};
+use answer::{Refusal, Refused, Shown};
 use label::Versions;
 use reader::Kind;
 
@@ -28,41 +29,34 @@ pub struct Chosen {
     pub row: Shown,
 }
 
-// The row that was chosen, or a refusal with its place in the original.
-#[derive(Clone, Copy)]
-pub enum Choice {
-    Is(Chosen),
-    Refused(Refusal, usize),
-}
-
 // Row `k` of the original, or its refusal.
-fn read_original(versions: Versions, original: &[u8], k: usize) -> Choice
-    ensures { chosen result ≡ mapped (from Source.Original) (row_of (Kind.Labelled versions) original.now k) }
+fn read_original(versions: Versions, original: &[u8], k: usize) -> Result<Chosen, Refused>
+    ensures { told result ≡ mapped (from Source.Original) (row_of (Kind.Labelled versions) original.now k) }
 {
     match reader::find_labelled(versions, original, k) {
-        Show::Is(row) => Choice::Is(Chosen {
+        Ok(row) => Ok(Chosen {
             source: Source::Original,
             row,
         }),
-        Show::Refused(why, place) => Choice::Refused(why, place),
+        Err(Refused(why, place)) => Err(Refused(why, place)),
     }
 }
 
 // Row `k`, whole: of the substitute where that is accepted and has the row, whatever the original is;
 // else of the original. The original's refusal where neither serves; the substitute's is never told.
-pub fn read_row(versions: Versions, original: &[u8], substitute: &[u8], k: usize) -> Choice
-    ensures { chosen result ≡ read_either versions original.now substitute.now k }
+pub fn read_row(versions: Versions, original: &[u8], substitute: &[u8], k: usize) -> Result<Chosen, Refused>
+    ensures { told result ≡ read_either versions original.now substitute.now k }
 {
     match reader::find_labelled(versions, substitute, k) {
-        Show::Is(row) => Choice::Is(Chosen {
+        Ok(row) => Ok(Chosen {
             source: Source::Substitute,
             row,
         }),
-        Show::Refused(_, _) => read_original(versions, original, k),
+        Err(_) => read_original(versions, original, k),
     }
 }
 
-// The bytes of a row that was chosen, lent again from the file that it came from. Of a row that no call
+// The bytes of a row that was told, lent again from the file that it came from. Of a row that no call
 // chose for these files, what of it lies in the file that it names.
 pub fn bytes_of<'a>(original: &'a [u8], substitute: &'a [u8], found: Chosen) -> &'a [u8]
     ensures { result.now ≡ bytes_at (file_named found.source original.now substitute.now) found.row.part.place found.row.part.count }

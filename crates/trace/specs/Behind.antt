@@ -8,13 +8,6 @@ use Rattle.dots.specs.Dot.{is_dot, bit}
 use Rattle.reader.specs.Read.{read_row}
 use Rattle.reader.specs.declared.Kind.{Kind}
 use Rattle.trace.specs.declared.Dot.{Dot}
-use Rattle.trace.specs.declared.Trace.{Trace}
-use Rattle.trace.specs.declared.Trace.TheVariants.{Is, Refused}
-
--- what the answer enum `Trace` stands for
-abbrev pub traced : Trace → Outcome Dot
-traced (Is dot) = answer dot
-traced (Refused why place) = refuse (number_of why) place
 
 -- the dot at column x of line y, whose byte stands at a place of the file
 abbrev pub dot_from : List ℕ → ℕ → ℕ → ℕ → Dot

@@ -3,13 +3,13 @@
 // the lines which `plotter` draws have this dot is the theorem `strip_is_traced`.
 #![tactic(auto)]
 
+ghost use Rattle.answer.specs.Told.{told};
 ghost use Rattle.std.specs.Prelude.{◌≡◌, ◌+◌, ◌<◌};
 ghost use Rattle.answer.specs.Outcome.{refuse};
-ghost use Rattle.answer.specs.Window.{shown};
 ghost use Rattle.reader.specs.Read.{find_row};
-ghost use Rattle.trace.specs.Behind.{traced, dot_behind};
+ghost use Rattle.trace.specs.Behind.{dot_behind};
 
-use answer::{Count, Refusal, Show};
+use answer::{Refusal, Refused};
 use reader::Kind;
 
 // A dot of a strip: the place in the file of the byte behind it, the byte, its tone, and whether the dot is
@@ -22,28 +22,21 @@ pub struct Dot {
     pub set: bool,
 }
 
-// The dot at a place of a strip, or a refusal with its place in the file.
-#[derive(Clone, Copy)]
-pub enum Trace {
-    Is(Dot),
-    Refused(Refusal, usize),
-}
-
 // The refusal of a row whose number passes 64 bits: a file has fewer rows, since they are counted in 64 bits.
-fn no_row(rows: usize) -> Show
-    ensures { (shown result ≡ refuse 6 0) × (rows < 18446744073709551616) }
+fn no_row(rows: usize) -> Result<Shown, Refused>
+    ensures { (told result ≡ refuse 6 0) × (rows < 18446744073709551616) }
 {
-    Show::Refused(Refusal::NoRow, 0)
+    Err(Refused(Refusal::NoRow, 0))
 }
 
 // Row `first` + `y`, whole; 6 where that number is none of 64 bits, in a file that the check accepts.
-fn row_of_line(kind: Kind, file: &[u8], first: usize, y: usize) -> Show
-    ensures { shown result ≡ find_row kind file.now (first + y) }
+fn row_of_line(kind: Kind, file: &[u8], first: usize, y: usize) -> Result<Shown, Refused>
+    ensures { told result ≡ find_row kind file.now (first + y) }
 {
     if 18446744073709551615 - first < y {
         return match reader::check(kind, file) {
-            Count::Is(rows) => no_row(rows),
-            Count::Refused(why, place) => Show::Refused(why, place),
+            Ok(rows) => no_row(rows),
+            Err(Refused(why, place)) => Err(Refused(why, place)),
         };
     }
     let k = first + y;
@@ -59,25 +52,25 @@ pub fn behind(
     c: usize,
     x: usize,
     y: usize,
-) -> Trace
-    ensures { traced result ≡ dot_behind kind file.now first a c x y }
+) -> Result<Dot, Refused>
+    ensures { told result ≡ dot_behind kind file.now first a c x y }
 {
     match row_of_line(kind, file, first, y) {
-        Show::Is(row) => {
+        Ok(row) => {
             if answer::window_fits(row.part.count, a, c) & (x < c) {
                 let place = row.part.place + a + x;
                 let byte = file[place];
                 let tone = dots::tone(byte);
                 let set = dots::is_dot(tone, x, y);
-                return Trace::Is(Dot {
+                return Ok(Dot {
                     place,
                     byte,
                     tone,
                     set,
                 });
             }
-            Trace::Refused(Refusal::NoPart, 0)
+            Err(Refused(Refusal::NoPart, 0))
         }
-        Show::Refused(why, place) => Trace::Refused(why, place),
+        Err(Refused(why, place)) => Err(Refused(why, place)),
     }
 }

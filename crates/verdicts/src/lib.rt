@@ -4,14 +4,14 @@
 // file: the caller brings the number and the value.
 #![tactic(auto)]
 
+ghost use Rattle.answer.specs.Told.{told};
 ghost use Rattle.std.specs.Prelude.{◌≡◌};
 ghost use Rattle.answer.specs.Outcome.{answer};
 ghost use Rattle.limits.specs.Limits.{table_of};
 ghost use Rattle.verdicts.specs.Verdict.{side, limits_of, verdict_of};
-ghost use Rattle.verdicts.specs.Judged.{judged};
 ghost use Rattle.verdicts.specs.Private.{found, index_in, numbers_of};
 
-use answer::Refusal;
+use answer::{Refusal, Refused};
 use limits::{Limit, Line, Table};
 
 // Where a value stands against its limits, or a refusal with its place.
@@ -40,7 +40,7 @@ const FIELDS: [u8; 43] = [
 
 // Where a value stands against a line's limits; the limits themselves are inside.
 fn judge(value: i64, limit: Limit) -> Judgement
-    ensures { judged result ≡ answer (side value limit) }
+    ensures { told result ≡ answer (side value limit) }
 {
     let minimum = limit.1;
     let maximum = limit.2;
@@ -88,7 +88,7 @@ fn find(table: Table, number: usize) -> Line
 
 // The verdict on a value of the element or field that has a number.
 pub fn verdict(table: Table, number: usize, value: i64) -> Judgement
-    ensures { judged result ≡ verdict_of table number value }
+    ensures { told result ≡ verdict_of table number value }
 {
     let line = find(table, number);
     let Line::Is(limit) = line else {

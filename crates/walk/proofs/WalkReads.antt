@@ -15,7 +15,7 @@ use Rattle.answer.specs.Outcome.{Outcome, answer, refuse, and_then, mapped}
 use Rattle.answer.specs.Nth.{nth}
 use Rattle.answer.specs.Address.{without_depth}
 use Rattle.answer.specs.declared.Shown.{Shown}
-use Rattle.answer.specs.declared.Nesting.TheVariants.{Absent}
+use Rattle.std.specs.Prelude.{None}
 use Rattle.answer.proofs.Outcomes.{answer_is_no_refusal, answer_injective, and_then_agrees_where}
 use Rattle.label.specs.declared.Versions.{Versions}
 use Rattle.label.specs.declared.Label.{Label}
@@ -94,7 +94,7 @@ module _ (versions : Versions) where
     over_a_leaf is zero row p q =
         ap (λ (o : Outcome Leaf). and_then o row_at_leaf)
         (walk_arrives versions at (label ++ (value ++ t)) (some_bytes false is) is.label (takes_the_leaf is))
-        ∙ ap₂ (λ (place count : ℕ). answer (record { part = record { place = place + 20; count = count }; address = record { label = place; nesting = Absent } }))
+        ∙ ap₂ (λ (place count : ℕ). answer (record { part = record { place = place + 20; count = count }; address = record { label = place; nesting = None } }))
         (sym p) (is.follows ∙ sym q)
     over_a_leaf is (suc k) row p q =
         ap (λ (o : Outcome Leaf). and_then o row_at_leaf)

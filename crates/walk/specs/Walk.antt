@@ -2,26 +2,18 @@
 -- class by 20 bytes, whatever its length field says, and over a leaf by 20 plus its length; a leaf must end inside the
 -- file; 1 to 4 as met, and 6 where the file ends). It is defined for any bytes, from any place. It is told which versions of the
 -- label are allowed (document 02, item 11), and reads labels as the scan does.
-use Rattle.std.specs.Prelude.{ℕ, zero, suc, ◌+◌, ◌-◌, Bool, true, false, List, [], ◌∷◌, length, drop, leb}
+use Rattle.std.specs.Prelude.{ℕ, zero, suc, ◌+◌, ◌-◌, Bool, true, false, List, [], ◌∷◌, length, drop, leb, None}
 use Rattle.std.proofs.Math.Option.{Option, none, some}
 use Rattle.answer.specs.Outcome.{Outcome, answer, refuse, need, and_then}
 use Rattle.answer.specs.Refusal.{number_of}
 use Rattle.answer.specs.Size.{of_file}
 use Rattle.answer.specs.declared.Shown.{Shown}
-use Rattle.answer.specs.declared.Nesting.TheVariants.{Absent}
 use Rattle.label.specs.declared.Label.{Label}
 use Rattle.label.specs.declared.Versions.{Versions}
 use Rattle.label.specs.Head.{label_size}
 use Rattle.label.specs.Label.{read_label}
 use Rattle.label.specs.Opened.{is_opened}
 use Rattle.walk.specs.declared.Leaf.{Leaf}
-use Rattle.walk.specs.declared.Walked.{Walked}
-use Rattle.walk.specs.declared.Walked.TheVariants.{Is, Refused}
-
--- what the answer enum `Walked` stands for
-abbrev pub walked_to : Walked → Outcome Leaf
-walked_to (Is leaf) = answer leaf
-walked_to (Refused why place) = refuse (number_of why) place
 
 -- the row that stands at a leaf, whole: its value, and its label's place; how deep it stands the walk does not know (document 02, item
 -- 8: "it fills only the label's place and says that the other two are absent")
@@ -29,7 +21,7 @@ abbrev pub row_at_leaf : Leaf → Outcome Shown
 row_at_leaf leaf =
     answer (record {
       part = record { place = leaf.place + label_size; count = leaf.label.length };
-      address = record { label = leaf.place; nesting = Absent };
+      address = record { label = leaf.place; nesting = None };
     })
 
 -- how a walk takes a label with so many bytes after it: nothing where its class is opened, else the leaf, whose value

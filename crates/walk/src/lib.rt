@@ -3,27 +3,20 @@
 // are left to the crates above.
 #![tactic(auto)]
 
+ghost use Rattle.answer.specs.Told.{told};
 ghost use Rattle.std.specs.Prelude.{◌≡◌};
 ghost use Rattle.answer.specs.Outcome.{and_then};
-ghost use Rattle.answer.specs.Window.{shown};
-ghost use Rattle.walk.specs.Walk.{walked_to, row_at_leaf, walk_from, step_at};
+ghost use Rattle.walk.specs.Walk.{row_at_leaf, walk_from, step_at};
 ghost use Rattle.walk.specs.Private.{stepped};
 
-use answer::{Address, Nesting, Part, Refusal, Show, Shown};
-use label::{Label, LabelRead, Versions};
+use answer::{Address, Nesting, Part, Refusal, Refused, Shown};
+use label::{Label, Versions};
 
 // A leaf: the place of its label, and what the label says.
 #[derive(Clone, Copy)]
 pub struct Leaf {
     pub place: usize,
     pub label: Label,
-}
-
-// The leaf that a walk came to, or a refusal with its place.
-#[derive(Clone, Copy)]
-pub enum Walked {
-    Is(Leaf),
-    Refused(Refusal, usize),
 }
 
 // What a walk finds at a label: an opened object, or a leaf that ends inside the file.
@@ -39,8 +32,8 @@ fn step_at(versions: Versions, s: &[u8]) -> Step
     ensures { stepped result ≡ step_at versions s.now }
 {
     match label::read_label(versions, s) {
-        LabelRead::Refused(why, place) => Step::Fault(why, place),
-        LabelRead::Is(l) => {
+        Err(Refused(why, place)) => Step::Fault(why, place),
+        Ok(l) => {
             if label::is_opened(l.class) {
                 return Step::Open;
             }
@@ -55,28 +48,28 @@ fn step_at(versions: Versions, s: &[u8]) -> Step
 
 // Walks forward from place `from`, passing so many leaves, to the next leaf: 14, 6 for a place past the
 // end, then as met. It reads no more of the file than it passes.
-pub fn walk_from(versions: Versions, file: &[u8], from: usize, leaves: usize) -> Walked
-    ensures { walked_to result ≡ walk_from versions file.now from leaves }
+pub fn walk_from(versions: Versions, file: &[u8], from: usize, leaves: usize) -> Result<Leaf, Refused>
+    ensures { told result ≡ walk_from versions file.now from leaves }
 {
     if answer::LARGEST_FILE < file.len() {
-        return Walked::Refused(Refusal::TooBig, 0);
+        return Err(Refused(Refusal::TooBig, 0));
     }
     if file.len() < from {
-        return Walked::Refused(Refusal::NoRow, 0);
+        return Err(Refused(Refusal::NoRow, 0));
     }
     let mut at = from;
     let mut k = leaves;
     while at < file.len() {
         match step_at(versions, &file[at..]) {
             Step::Fault(why, _) => {
-                return Walked::Refused(why, at);
+                return Err(Refused(why, at));
             }
             Step::Open => {
                 at = at + label::LABEL;
             }
             Step::Closed(found) => {
                 if k == 0 {
-                    return Walked::Is(Leaf {
+                    return Ok(Leaf {
                         place: at,
                         label: found,
                     });
@@ -87,19 +80,19 @@ pub fn walk_from(versions: Versions, file: &[u8], from: usize, leaves: usize) ->
             }
         }
     }
-    Walked::Refused(Refusal::NoRow, 0)
+    Err(Refused(Refusal::NoRow, 0))
 }
 
 // The row of the leaf that a walk from place `from` comes to, after so many leaves. Its depth is absent.
-pub fn row_from(versions: Versions, file: &[u8], from: usize, leaves: usize) -> Show
-    ensures { shown result ≡ and_then (walk_from versions file.now from leaves) row_at_leaf }
+pub fn row_from(versions: Versions, file: &[u8], from: usize, leaves: usize) -> Result<Shown, Refused>
+    ensures { told result ≡ and_then (walk_from versions file.now from leaves) row_at_leaf }
 {
     match walk_from(versions, file, from, leaves) {
-        Walked::Is(leaf) => {
+        Ok(leaf) => {
             let label = leaf.place;
             let value = label + label::LABEL;
             let count = leaf.label.length;
-            Show::Is(Shown {
+            Ok(Shown {
                 part: Part {
                     place: value,
                     count,
@@ -110,6 +103,6 @@ pub fn row_from(versions: Versions, file: &[u8], from: usize, leaves: usize) -> 
                 },
             })
         }
-        Walked::Refused(why, place) => Show::Refused(why, place),
+        Err(Refused(why, place)) => Err(Refused(why, place)),
     }
 }

@@ -8,11 +8,10 @@
 // the prefix.
 #![tactic(auto)]
 
+ghost use Rattle.answer.specs.Told.{told};
 ghost use Rattle.std.specs.Prelude.{◌≡◌, ℕ, ◌≤◌};
 ghost use Rattle.answer.specs.Outcome.{answer, mapped};
 ghost use Rattle.answer.specs.Size.{largest_file};
-ghost use Rattle.answer.specs.Counted.{counted};
-ghost use Rattle.answer.specs.Window.{shown};
 ghost use Rattle.fixed_rows.specs.Shape.{row_at};
 ghost use Rattle.fixed_rows.specs.Check.{count_rows};
 ghost use Rattle.fixed_rows.specs.Read.{find_row};
@@ -21,7 +20,6 @@ ghost use Rattle.fixed_rows.specs.From.{row_from};
 ghost use Rattle.waveform.specs.Rows.{row_size, waveform};
 ghost use Rattle.waveform.specs.Sample.{twice_amplitude};
 
-use answer::{Count, Show};
 
 // The bytes of a row, of its prefix and of its samples.
 const ROW: usize = 2080;
@@ -31,29 +29,29 @@ const PREFIX: usize = 32;
 const SAMPLES: usize = 2048;
 
 // The number of rows; 14 for a file that is too large, 12 for one that is not whole rows.
-pub fn check(file: &[u8]) -> Count
-    ensures { counted result ≡ count_rows waveform file.now }
+pub fn check(file: &[u8]) -> Result<usize, Refused>
+    ensures { told result ≡ count_rows waveform file.now }
 {
     fixed_rows::count(file, 0, ROW)
 }
 
 // The samples of row `k`, found by passing the rows before it: 14, 12, 6.
-pub fn find_row(file: &[u8], k: usize) -> Show
-    ensures { shown result ≡ find_row waveform file.now k }
+pub fn find_row(file: &[u8], k: usize) -> Result<Shown, Refused>
+    ensures { told result ≡ find_row waveform file.now k }
 {
     samples_from(fixed_rows::read_start(file, 0, ROW, k))
 }
 
 // The same samples, found by computing the row's place: 14, 12, 6.
-pub fn jump_to(file: &[u8], k: usize) -> Show
-    ensures { shown result ≡ jump_to waveform file.now k }
+pub fn jump_to(file: &[u8], k: usize) -> Result<Shown, Refused>
+    ensures { told result ≡ jump_to waveform file.now k }
 {
     samples_from(jump_start(file, k))
 }
 
 // Going on: the samples of the row that begins at place `from`: 14, 12, and 6 where none begins there.
-pub fn row_from(file: &[u8], from: usize) -> Show
-    ensures { shown result ≡ row_from waveform file.now from }
+pub fn row_from(file: &[u8], from: usize) -> Result<Shown, Refused>
+    ensures { told result ≡ row_from waveform file.now from }
 {
     samples_from(fixed_rows::start_from(file, 0, ROW, from))
 }
@@ -66,12 +64,12 @@ pub fn sample(s: u8) -> i64
 }
 
 // Where row `k` starts, computed. It is asked first whether there is such a row, so that no number wraps.
-fn jump_start(file: &[u8], k: usize) -> Count
-    ensures { counted result ≡ jump_start 0 row_size file.now k }
+fn jump_start(file: &[u8], k: usize) -> Result<usize, Refused>
+    ensures { told result ≡ jump_start 0 row_size file.now k }
 {
     match fixed_rows::row_numbered(file, 0, ROW, k) {
-        Count::Is(number) => Count::Is(row_start(number)),
-        Count::Refused(why, place) => Count::Refused(why, place),
+        Ok(number) => Ok(row_start(number)),
+        Err(Refused(why, place)) => Err(Refused(why, place)),
     }
 }
 
@@ -88,15 +86,15 @@ fn row_start(k: usize) -> usize
 }
 
 // The samples of a row that starts at the place found.
-fn samples_from(found: Count) -> Show
-    requires { (p : ℕ) → counted found ≡ answer p → p ≤ largest_file }
-    ensures { shown result ≡ mapped (row_at waveform) (counted found) }
+fn samples_from(found: Result<usize, Refused>) -> Result<Shown, Refused>
+    requires { (p : ℕ) → told found ≡ answer p → p ≤ largest_file }
+    ensures { told result ≡ mapped (row_at waveform) (told found) }
 {
     match found {
-        Count::Is(start) => {
+        Ok(start) => {
             let place = start + PREFIX;
-            Show::Is(answer::unlabelled(place, SAMPLES))
+            Ok(answer::unlabelled(place, SAMPLES))
         }
-        Count::Refused(why, place) => Show::Refused(why, place),
+        Err(Refused(why, place)) => Err(Refused(why, place)),
     }
 }

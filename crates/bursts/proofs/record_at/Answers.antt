@@ -2,18 +2,18 @@
 use mathlib.Core.Path.{◌∙◌, sym, ap}
 use Prim.Native.Nat.{ℕ}
 use native.Mathlib.Nat.{add-zero}
+use Rattle.answer.specs.Told.{told}
 use Rattle.answer.specs.Outcome.{answer, mapped}
-use Rattle.answer.specs.Counted.{counted}
 use Rattle.answer.specs.Address.{unlabelled}
 use Rattle.fixed_rows.specs.Shape.{row_at}
 use Rattle.bursts.specs.Rows.{record_size, bursts}
 use Rattle.bursts.proofs.record_at.Goals as goal
 
-pub returns-in-Is : goal.returns-in-Is
-returns-in-Is c =
+pub returns-in-Ok : goal.returns-in-Ok
+returns-in-Ok c =
     ap answer c.unlabelled.ensures
-    ∙ ap (λ (p : ℕ). answer (unlabelled p record_size)) (sym (add-zero c.in-Is.place))
-    ∙ ap (mapped (row_at (bursts 0))) (ap counted (sym c.in-Is.is))
+    ∙ ap (λ (p : ℕ). answer (unlabelled p record_size)) (sym (add-zero c.in-Ok.place))
+    ∙ ap (mapped (row_at (bursts 0))) (ap told (sym c.in-Ok.is))
 
-pub returns-in-Refused : goal.returns-in-Refused
-returns-in-Refused c = ap (mapped (row_at (bursts 0))) (ap counted (sym c.in-Refused.is))
+pub returns-in-Err : goal.returns-in-Err
+returns-in-Err c = ap (mapped (row_at (bursts 0))) (ap told (sym c.in-Err.is))

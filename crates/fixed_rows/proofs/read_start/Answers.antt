@@ -1,12 +1,12 @@
 -- `read_start` meets its contract: by the case of the check.
 use mathlib.Core.Path.{◌∙◌, sym, ap}
-use Rattle.answer.specs.Counted.{counted}
+use Rattle.answer.specs.Told.{told}
 use Rattle.fixed_rows.proofs.read_start.Goals as goal
 
-pub returns-in-Is : goal.returns-in-Is
-returns-in-Is c =
-    simp (sym c.count.ensures ∙ ap counted c.in-Is.is)
+pub returns-in-Ok : goal.returns-in-Ok
+returns-in-Ok c =
+    simp (sym c.count.ensures ∙ ap told c.in-Ok.is)
     c.pass.ensures
 
-pub returns-in-Refused : goal.returns-in-Refused
-returns-in-Refused c = simp (sym c.count.ensures ∙ ap counted c.in-Refused.is)
+pub returns-in-Err : goal.returns-in-Err
+returns-in-Err c = simp (sym c.count.ensures ∙ ap told c.in-Err.is)

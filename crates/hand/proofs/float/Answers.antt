@@ -1,13 +1,13 @@
 -- `hand::float` meets its contract: by what was answered.
 use mathlib.Core.Path.{◌∙◌, ap}
-use Rattle.vax.specs.Decoded.{decoded}
+use Rattle.answer.specs.Told.{told}
 use Rattle.hand.proofs.Handing.{answered_result, answered_part, refused_result, refused_part}
 use Rattle.hand.proofs.float.Goals as goal
 
-pub returns-in-Is : goal.returns-in-Is
-returns-in-Is c =
-    let e = ap decoded c.in-Is.is in record { value = answered_result e; number_after = answered_part _ _ e }
+pub returns-in-Ok : goal.returns-in-Ok
+returns-in-Ok c =
+    let e = ap told c.in-Ok.is in record { value = answered_result e; number_after = answered_part _ _ e }
 
-pub returns-in-Refused : goal.returns-in-Refused
-returns-in-Refused c =
-    let e = ap decoded c.in-Refused.is in record { value = c.refused.ensures ∙ refused_result e; number_after = refused_part _ _ e }
+pub returns-in-Err : goal.returns-in-Err
+returns-in-Err c =
+    let e = ap told c.in-Err.is in record { value = c.refused.ensures ∙ refused_result e; number_after = refused_part _ _ e }

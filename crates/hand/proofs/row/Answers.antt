@@ -3,7 +3,7 @@ use Prim.Native.Nat.{ℕ}
 use mathlib.Core.Path.{◌≡◌, ◌∙◌, sym, ap}
 use mathlib.Core.List.{List, [], ◌∷◌}
 use lib.ListN.{get_or}
-use Rattle.answer.specs.Window.{shown}
+use Rattle.answer.specs.Told.{told}
 use Rattle.answer.specs.declared.Nesting.{Nesting}
 use Rattle.answer.specs.declared.Shown.{Shown}
 use Rattle.hand.specs.Parts.{nesting_number, depth_handed, outermost_handed, row_numbers}
@@ -20,15 +20,15 @@ in_six old s e =
 pub returns-in-Known : goal.returns-in-Known
 returns-in-Known c =
     let old = c.args.numbers.now in
-    let e = ap shown c.in-Is.is in
-    record { value = answered_result e; numbers_after = in_six old c.in-Is.s c.in-Known.is ∙ answered_part (row_numbers old) _ e }
+    let e = ap told c.in-Ok.is in
+    record { value = answered_result e; numbers_after = in_six old c.in-Ok.s c.in-Known.is ∙ answered_part (row_numbers old) _ e }
 
 pub returns-in-Absent : goal.returns-in-Absent
 returns-in-Absent c =
     let old = c.args.numbers.now in
-    let e = ap shown c.in-Is.is in
-    record { value = answered_result e; numbers_after = in_six old c.in-Is.s c.in-Absent.is ∙ answered_part (row_numbers old) _ e }
+    let e = ap told c.in-Ok.is in
+    record { value = answered_result e; numbers_after = in_six old c.in-Ok.s c.in-Absent.is ∙ answered_part (row_numbers old) _ e }
 
-pub returns-in-Refused : goal.returns-in-Refused
-returns-in-Refused c =
-    let e = ap shown c.in-Refused.is in record { value = c.refused.ensures ∙ refused_result e; numbers_after = refused_part _ _ e }
+pub returns-in-Err : goal.returns-in-Err
+returns-in-Err c =
+    let e = ap told c.in-Err.is in record { value = c.refused.ensures ∙ refused_result e; numbers_after = refused_part _ _ e }

@@ -5,8 +5,8 @@ use Prim.Native.Nat.{◌+◌, ◌-◌, ◌/◌}
 use mathlib.Core.Path.{◌≡◌, ◌∙◌, sym, ap}
 use mathlib.Core.Bool.{true}
 use lib.ListN.{length, drop}
+use Rattle.answer.specs.Told.{told}
 use Rattle.answer.specs.Outcome.{answer}
-use Rattle.answer.specs.Counted.{counted}
 use Rattle.sfdu.specs.Check.{check_labelled}
 use Rattle.row_index.specs.Private.{the_index}
 use Rattle.row_index.proofs.Building.{entries_counted, lengths_differ}
@@ -15,10 +15,10 @@ use Rattle.house_record.proofs.Entries.{length_entries}
 use Rattle.house_record.proofs.Reading.{Accepted, accepted}
 use Rattle.kept_check.proofs.Borne.{not_accepted, no_record, compared}
 use Rattle.kept_check.proofs.rows_borne_out.Goals as goal
-use Rattle.kept_check.proofs.rows_borne_out.Goals.{Else-not-is_record, In-Is}
+use Rattle.kept_check.proofs.rows_borne_out.Goals.{Else-not-is_record, In-Ok}
 
-is : (c : In-Is) → check_labelled c.args.versions c.args.file.now ≡ answer c.in-Is.rows
-is c = sym c.check.ensures ∙ ap counted c.in-Is.is
+is : (c : In-Ok) → check_labelled c.args.versions c.args.file.now ≡ answer c.in-Ok.rows
+is c = sym c.check.ensures ∙ ap told c.in-Ok.is
 
 is_a_record : (c : Else-not-is_record) → is_kept c.args.kind (6 + c.args.between) c.args.kept.now ≡ true
 is_a_record c = sym c.is_record.ensures ∙ c.if-not-is_record.false
@@ -32,7 +32,7 @@ pub returns-then-not-is_record : goal.returns-then-not-is_record
 returns-then-not-is_record c =
     let a = c.args in
     sym
-    (no_record a.versions a.kind (6 + a.between) a.file.now a.kept.now _ (is (goal.at.returns-then-not-is_record c).In-Is)
+    (no_record a.versions a.kind (6 + a.between) a.file.now a.kept.now _ (is (goal.at.returns-then-not-is_record c).In-Ok)
     (sym c.is_record.ensures ∙ c.if-not-is_record.true))
 
 pub overflow_add-first : goal.overflow_add-first
@@ -49,37 +49,37 @@ returns-then-count-groups c =
     let xs = entries_of count (drop first a.kept.now) in
     let index = the_index a.versions a.file.now in
     sym
-    (compared a.versions a.kind first a.file.now a.kept.now _ (is (goal.at.returns-then-count-groups c).In-Is) (is_a_record (goal.at.returns-then-count-groups c).Else-not-is_record) _
+    (compared a.versions a.kind first a.file.now a.kept.now _ (is (goal.at.returns-then-count-groups c).In-Ok) (is_a_record (goal.at.returns-then-count-groups c).Else-not-is_record) _
     (lengths_differ xs index
     (λ e.
     c.if-count-groups.true
-    (sym (length_entries count (drop first a.kept.now)) ∙ e ∙ entries_counted a.versions a.file.now _ (is (goal.at.returns-then-count-groups c).In-Is)
+    (sym (length_entries count (drop first a.kept.now)) ∙ e ∙ entries_counted a.versions a.file.now _ (is (goal.at.returns-then-count-groups c).In-Ok)
     ∙ sym c.groups.ensures))))
 
 pub entries_agree-requires : goal.entries_agree-requires
 entries_agree-requires c =
     let a = c.args in (
       omega (arith, (says (goal.at.entries_agree-requires c).Else-not-is_record).long, (says (goal.at.entries_agree-requires c).Else-not-is_record).whole),
-      c.if-count-groups.false ∙ c.groups.ensures ∙ sym (entries_counted a.versions a.file.now _ (is (goal.at.entries_agree-requires c).In-Is)),
+      c.if-count-groups.false ∙ c.groups.ensures ∙ sym (entries_counted a.versions a.file.now _ (is (goal.at.entries_agree-requires c).In-Ok)),
     )
 
-pub returns-in-Refused : goal.returns-in-Refused
-returns-in-Refused c =
+pub returns-in-Err : goal.returns-in-Err
+returns-in-Err c =
     let a = c.args in
     sym
     (not_accepted a.versions a.kind (6 + a.between) a.file.now a.kept.now _ _
-    (sym c.check.ensures ∙ ap counted c.in-Refused.is))
+    (sym c.check.ensures ∙ ap told c.in-Err.is))
 
 pub returns-then-entries_agree : goal.returns-then-entries_agree
 returns-then-entries_agree c =
     let a = c.args in
     sym
-    (compared a.versions a.kind (6 + a.between) a.file.now a.kept.now _ (is (goal.at.returns-then-entries_agree c).In-Is) (is_a_record (goal.at.returns-then-entries_agree c).Else-not-is_record) _
+    (compared a.versions a.kind (6 + a.between) a.file.now a.kept.now _ (is (goal.at.returns-then-entries_agree c).In-Ok) (is_a_record (goal.at.returns-then-entries_agree c).Else-not-is_record) _
     (sym c.entries_agree.ensures ∙ c.if-entries_agree.true))
 
 pub returns-else-entries_agree : goal.returns-else-entries_agree
 returns-else-entries_agree c =
     let a = c.args in
     sym
-    (compared a.versions a.kind (6 + a.between) a.file.now a.kept.now _ (is (goal.at.returns-else-entries_agree c).In-Is) (is_a_record (goal.at.returns-else-entries_agree c).Else-not-is_record) _
+    (compared a.versions a.kind (6 + a.between) a.file.now a.kept.now _ (is (goal.at.returns-else-entries_agree c).In-Ok) (is_a_record (goal.at.returns-else-entries_agree c).Else-not-is_record) _
     (sym c.entries_agree.ensures ∙ c.if-entries_agree.false))

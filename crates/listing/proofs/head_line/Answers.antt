@@ -3,13 +3,13 @@ use mathlib.Core.Path.{sym}
 use Rattle.listing.proofs.Lines.{three_pieces, five_pieces}
 use Rattle.listing.proofs.head_line.Goals as goal
 
-pub returns-in-Is : goal.returns-in-Is
-returns-in-Is c =
-    rw c.in-Is.is
-    (three_pieces c.nothing.ensures c.with.ensures c.with_number-rows.ensures.grown c.with-in-Is.ensures)
+pub returns-in-Ok : goal.returns-in-Ok
+returns-in-Ok c =
+    rw c.in-Ok.is
+    (three_pieces c.nothing.ensures c.with.ensures c.with_number-rows.ensures.grown c.with-in-Ok.ensures)
 
-pub returns-in-Refused : goal.returns-in-Refused
-returns-in-Refused c =
-    rw c.in-Refused.is
+pub returns-in-Err : goal.returns-in-Err
+returns-in-Err c =
+    rw c.in-Err.is
     (rw (sym c.number-number.ensures)
-    (five_pieces c.nothing-in-Refused.ensures c.with-in-Refused.ensures c.with_number-refused.ensures.grown c.with-in-Refused-2.ensures c.with_number-placed.ensures.grown c.with-in-Refused-3.ensures))
+    (five_pieces c.nothing-in-Err.ensures c.with-in-Err.ensures c.with_number-refused.ensures.grown c.with-in-Err-2.ensures c.with_number-placed.ensures.grown c.with-in-Err-3.ensures))

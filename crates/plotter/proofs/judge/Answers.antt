@@ -4,22 +4,22 @@ use Prim.Native.Nat.{ℕ, ◌+◌}
 use native.Mathlib.Omega.{arith}
 use mathlib.Core.Path.{◌∙◌, sym, ap}
 use mathlib.Core.Bool.{Bool}
+use Rattle.answer.specs.Told.{told}
 use Rattle.answer.specs.Outcome.{answer, need}
-use Rattle.answer.specs.Window.{shown}
 use Rattle.plotter.specs.Private.{Starts}
 use Rattle.plotter.proofs.Going.{NextRow, next_row, next_refused}
 use Rattle.plotter.proofs.Judging.{nothing_judged, one_judged, one_refused, all_judged}
 use Rattle.plotter.proofs.judge.Goals as goal
-use Rattle.plotter.proofs.judge.Goals.{In-Is}
+use Rattle.plotter.proofs.judge.Goals.{In-Ok}
 
 -- the row that going on came to, whatever the number of the first one
-came : (c : In-Is) (first : ℕ) → Starts c.args.kind c.args.file.now first c.args.start
-    → NextRow c.args.kind c.args.file.now (first + c.loop-found.found) c.in-Is.row
+came : (c : In-Ok) (first : ℕ) → Starts c.args.kind c.args.file.now first c.args.start
+    → NextRow c.args.kind c.args.file.now (first + c.loop-found.found) c.in-Ok.row
 came c first s =
     let a = c.args in
     let l = c.loop-found in
-    next_row a.kind a.file.now (first + l.found) l.from (l.invariant first s).going.next c.in-Is.row
-    (sym c.row_from.ensures ∙ ap shown c.in-Is.is)
+    next_row a.kind a.file.now (first + l.found) l.from (l.invariant first s).going.next c.in-Ok.row
+    (sym c.row_from.ensures ∙ ap told c.in-Ok.is)
 
 pub loop-found-init : goal.loop-found-init
 loop-found-init c = λ first s.
@@ -29,7 +29,7 @@ loop-found-init c = λ first s.
 pub overflow_add-from : goal.overflow_add-from
 overflow_add-from c =
     let s = c.requires in
-    omega (arith, (came (goal.at.overflow_add-from c).In-Is s.0 s.1).inside)
+    omega (arith, (came (goal.at.overflow_add-from c).In-Ok s.0 s.1).inside)
 
 pub overflow_add-found : goal.overflow_add-found
 overflow_add-found c = omega (arith, c.loop-found-test.true, c.ranges.rows)
@@ -41,15 +41,15 @@ pub loop-found-preserved : goal.loop-found-preserved
 loop-found-preserved c = λ first s.
     let a = c.args in
     let l = c.loop-found in
-    one_judged a.kind a.file.now first a.rows a.a a.c l.fit l.from l.found (l.invariant first s) c.loop-found-test.true c.in-Is.row (came (goal.at.loop-found-preserved c).In-Is first s)
+    one_judged a.kind a.file.now first a.rows a.a a.c l.fit l.from l.found (l.invariant first s) c.loop-found-test.true c.in-Ok.row (came (goal.at.loop-found-preserved c).In-Ok first s)
     c.window_fits-fit.result c.window_fits-fit.ensures
 
-pub returns-in-Refused : goal.returns-in-Refused
-returns-in-Refused c = λ first s.
+pub returns-in-Err : goal.returns-in-Err
+returns-in-Err c = λ first s.
     let a = c.args in
     let l = c.loop-found in
     sym (one_refused a.kind a.file.now first a.rows a.a a.c l.fit l.from l.found (l.invariant first s) c.loop-found-test.true _ _
-    (next_refused a.kind a.file.now (first + l.found) l.from (l.invariant first s).going.next _ _ (sym c.row_from.ensures ∙ ap shown c.in-Refused.is)))
+    (next_refused a.kind a.file.now (first + l.found) l.from (l.invariant first s).going.next _ _ (sym c.row_from.ensures ∙ ap told c.in-Err.is)))
 
 pub returns-then-fit : goal.returns-then-fit
 returns-then-fit c = λ first s.

@@ -1,11 +1,11 @@
 -- `plotter::nothing` meets its contract.
 use mathlib.Core.Path.{◌∙◌, sym, ap}
+use Rattle.answer.specs.Told.{told}
 use Rattle.answer.specs.Outcome.{mapped}
-use Rattle.answer.specs.Counted.{counted}
 use Rattle.plotter.proofs.nothing.Goals as goal
 
-pub returns-in-Is : goal.returns-in-Is
-returns-in-Is c = sym (ap (mapped (λ rows. 0)) (sym c.check.ensures ∙ ap counted c.in-Is.is))
+pub returns-in-Ok : goal.returns-in-Ok
+returns-in-Ok c = sym (ap (mapped (λ rows. 0)) (sym c.check.ensures ∙ ap told c.in-Ok.is))
 
-pub returns-in-Refused : goal.returns-in-Refused
-returns-in-Refused c = sym (ap (mapped (λ rows. 0)) (sym c.check.ensures ∙ ap counted c.in-Refused.is))
+pub returns-in-Err : goal.returns-in-Err
+returns-in-Err c = sym (ap (mapped (λ rows. 0)) (sym c.check.ensures ∙ ap told c.in-Err.is))

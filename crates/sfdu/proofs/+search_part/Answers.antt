@@ -4,7 +4,7 @@ use Prim.Native.Nat.{ℕ}
 use native.Mathlib.Omega.{arith}
 use mathlib.Core.Path.{refl, ◌∙◌, ap, subst}
 use mathlib.Core.Bool.{true, false}
-use Rattle.sfdu.specs.Search.{searched}
+use Rattle.answer.specs.Told.{told}
 use Rattle.sfdu.specs.Private.{ObjectAt, Stands, Searched}
 use Rattle.sfdu.proofs.Nested.{starts, no_bytes, deepest, ends, faulty, leaf_found, leaf_passed, group_passed, group_faulty}
 use Rattle.sfdu.proofs.+search_part.Goals as goal
@@ -95,7 +95,7 @@ returns-in-Fault-search_part t c =
     let w = c.loop-at in
     group_faulty c.args.versions c.args.part.now _ _ _ _ _ w.at _ w.invariant c.loop-at-test.true _ _ (group t (goal.at.returns-in-Fault-search_part t c).In-Group) c.outermost.ensures
     (omega (arith, c.if-left-eq0.false)) c.requires.1 _ _
-    (subst (Searched _ _ _ _ _ _ _) (ap searched c.in-Fault-search_part.is) c.search_part.ensures)
+    (subst (Searched _ _ _ _ _ _ _) (ap told c.in-Fault-search_part.is) c.search_part.ensures)
 
 pub loop-at-smaller : goal.loop-at-smaller
 loop-at-smaller t c = omega (arith, c.loop-at-test.true, (group t (goal.at.loop-at-smaller t c).In-Group).ends, (group t (goal.at.loop-at-smaller t c).In-Group).inside)
@@ -105,7 +105,7 @@ loop-at-preserved t c =
     let w = c.loop-at in
     group_passed c.args.versions c.args.part.now _ _ _ _ _ w.at _ w.invariant c.loop-at-test.true _ _ (group t (goal.at.loop-at-preserved t c).In-Group) c.outermost.ensures
     (omega (arith, c.if-left-eq0.false)) c.requires.1 _
-    (subst (Searched _ _ _ _ _ _ _) (ap searched c.in-Is.is) c.search_part.ensures)
+    (subst (Searched _ _ _ _ _ _ _) (ap told c.in-Ok.is) c.search_part.ensures)
 
 pub returns : goal.returns
 returns t c =

@@ -5,11 +5,12 @@ use mathlib.Core.Path.{◌≡◌, ◌∙◌, sym, ap}
 use mathlib.Core.Bool.{Bool}
 use mathlib.Core.List.{List}
 use lib.ListN.{length, take, drop, length-drop}
+use Rattle.answer.specs.Told.{told}
 use Rattle.answer.specs.Outcome.{Outcome, answer, refuse}
 use Rattle.answer.proofs.Parts.{all_that_is_left}
 use Rattle.label.specs.declared.Label.{Label}
 use Rattle.label.specs.declared.Versions.{Versions}
-use Rattle.label.specs.Label.{told, read_label}
+use Rattle.label.specs.Label.{read_label}
 use Rattle.label.specs.Opened.{is_opened}
 use Rattle.label.proofs.Reading.{read_has_20_bytes}
 use Rattle.sfdu.specs.Scan.{object}
@@ -42,27 +43,27 @@ module _ (versions : Versions) (part : List ℕ) (at : ℕ) where
 pub overflow_sub-room : goal.overflow_sub-room
 overflow_sub-room c =
     let a = c.args in
-    long a.versions a.part.now a.at c.in-Is.l (seen a.versions a.part.now a.at (ap told (sym c.in-Is.is) ∙ c.read_label.ensures))
+    long a.versions a.part.now a.at c.in-Ok.l (seen a.versions a.part.now a.at (ap told (sym c.in-Ok.is) ∙ c.read_label.ensures))
 
 pub returns-then-room-l : goal.returns-then-room-l
 returns-then-room-l c =
     let a = c.args in
-    let reads = seen a.versions a.part.now a.at (ap told (sym c.in-Is.is) ∙ c.read_label.ensures) in
-    (0, overruns a.versions a.part.now a.at c.in-Is.l reads c.if-room-l.true)
+    let reads = seen a.versions a.part.now a.at (ap told (sym c.in-Ok.is) ∙ c.read_label.ensures) in
+    (0, overruns a.versions a.part.now a.at c.in-Ok.l reads c.if-room-l.true)
 
 pub returns-then-is_opened : goal.returns-then-is_opened
 returns-then-is_opened c =
     let a = c.args in
-    let reads = seen a.versions a.part.now a.at (ap told (sym c.in-Is.is) ∙ c.read_label.ensures) in
-    stands a.versions a.part.now a.at c.in-Is.l reads _ c.if-room-l.false (sym c.is_opened.ensures ∙ c.if-is_opened.true)
+    let reads = seen a.versions a.part.now a.at (ap told (sym c.in-Ok.is) ∙ c.read_label.ensures) in
+    stands a.versions a.part.now a.at c.in-Ok.l reads _ c.if-room-l.false (sym c.is_opened.ensures ∙ c.if-is_opened.true)
 
-pub returns-in-Refused : goal.returns-in-Refused
-returns-in-Refused c =
+pub returns-in-Err : goal.returns-in-Err
+returns-in-Err c =
     let a = c.args in
-    (_, label_not_read a.versions (drop a.at a.part.now) _ _ (seen a.versions a.part.now a.at (ap told (sym c.in-Refused.is) ∙ c.read_label.ensures)))
+    (_, label_not_read a.versions (drop a.at a.part.now) _ _ (seen a.versions a.part.now a.at (ap told (sym c.in-Err.is) ∙ c.read_label.ensures)))
 
 pub returns-else-is_opened : goal.returns-else-is_opened
 returns-else-is_opened c =
     let a = c.args in
-    let reads = seen a.versions a.part.now a.at (ap told (sym c.in-Is.is) ∙ c.read_label.ensures) in
-    stands a.versions a.part.now a.at c.in-Is.l reads _ c.if-room-l.false (sym c.is_opened.ensures ∙ c.if-is_opened.false)
+    let reads = seen a.versions a.part.now a.at (ap told (sym c.in-Ok.is) ∙ c.read_label.ensures) in
+    stands a.versions a.part.now a.at c.in-Ok.l reads _ c.if-room-l.false (sym c.is_opened.ensures ∙ c.if-is_opened.false)

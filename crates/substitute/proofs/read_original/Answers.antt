@@ -7,8 +7,8 @@ use Rattle.substitute.specs.declared.Source.TheVariants.{Original}
 use Rattle.substitute.proofs.Rows.{found_is_row}
 use Rattle.substitute.proofs.read_original.Goals as goal
 
-pub returns-in-Is : goal.returns-in-Is
-returns-in-Is c = sym (ap (mapped (from Original)) (found_is_row (Labelled _) _ _ c.find_labelled.ensures c.in-Is.is))
+pub returns-in-Ok : goal.returns-in-Ok
+returns-in-Ok c = sym (ap (mapped (from Original)) (found_is_row (Labelled _) _ _ c.find_labelled.ensures c.in-Ok.is))
 
-pub returns-in-Refused : goal.returns-in-Refused
-returns-in-Refused c = sym (ap (mapped (from Original)) (found_is_row (Labelled _) _ _ c.find_labelled.ensures c.in-Refused.is))
+pub returns-in-Err : goal.returns-in-Err
+returns-in-Err c = sym (ap (mapped (from Original)) (found_is_row (Labelled _) _ _ c.find_labelled.ensures c.in-Err.is))

@@ -5,10 +5,10 @@ use Rattle.substitute.proofs.Rows.{found_is_row}
 use Rattle.substitute.proofs.Serving.{substitute_has_it, substitute_refused}
 use Rattle.substitute.proofs.read_row.Goals as goal
 
-pub returns-in-Is : goal.returns-in-Is
-returns-in-Is c = sym (substitute_has_it _ _ _ _ _ (found_is_row (Labelled _) _ _ c.find_labelled.ensures c.in-Is.is))
+pub returns-in-Ok : goal.returns-in-Ok
+returns-in-Ok c = sym (substitute_has_it _ _ _ _ _ (found_is_row (Labelled _) _ _ c.find_labelled.ensures c.in-Ok.is))
 
-pub returns-in-Refused : goal.returns-in-Refused
-returns-in-Refused c =
+pub returns-in-Err : goal.returns-in-Err
+returns-in-Err c =
     c.read_original.ensures
-    ∙ sym (substitute_refused _ _ _ _ _ _ (found_is_row (Labelled _) _ _ c.find_labelled.ensures c.in-Refused.is))
+    ∙ sym (substitute_refused _ _ _ _ _ _ (found_is_row (Labelled _) _ _ c.find_labelled.ensures c.in-Err.is))

@@ -11,4 +11,4 @@ returns-in_default c = simp (sym c.find-line.ensures ∙ ap found c.in_default.i
 pub returns : goal.returns
 returns c =
     let value = to_z-of_z w64 c.args.value c.ranges.value in
-    c.judge.ensures ∙ sym (simp (sym c.find-line.ensures ∙ ap found c.in-Is.is, value))
+    c.judge.ensures ∙ sym (simp (sym c.find-line.ensures ∙ ap found c.in-Ok.is, value))
