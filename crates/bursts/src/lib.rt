@@ -13,10 +13,13 @@ ghost use Rattle.fixed_rows.specs.Check.{count_rows};
 ghost use Rattle.fixed_rows.specs.Read.{find_row};
 ghost use Rattle.fixed_rows.specs.Jump.{start_of, jump_to};
 ghost use Rattle.fixed_rows.specs.From.{row_from};
-ghost use Rattle.bursts.specs.Rows.{record_size, bursts};
+ghost use Rattle.bursts.specs.Rows.{bursts};
 
 use answer::{Refused, Shown};
 use fixed_rows::FixedRows;
+
+// The bytes of a record.
+const RECORD: usize = 1272;
 
 // The records of a file, from the place `first` on.
 #[derive(Clone, Copy)]
@@ -25,27 +28,26 @@ struct Bursts {
 }
 
 impl FixedRows for Bursts {
-    ghost first = { λ b. b.first };
-
-    ghost SKIP = { 0 };
-
-    ghost SIZE = { record_size };
+    ghost shape = { λ b. bursts b.first };
 
     ghost takes_bytes = { Prim.search rules };
 
     ghost is_small = { Prim.search rules };
 
-    const SKIP: usize = 0;
-
-    // The bytes of a record.
-    const SIZE: usize = 1272;
-
     fn first(self) -> usize {
         self.first
     }
 
+    fn skip(self) -> usize {
+        0
+    }
+
+    fn size(self) -> usize {
+        RECORD
+    }
+
     fn row_start(self, k: usize) -> usize {
-        self.first + Self::SIZE * k
+        self.first + RECORD * k
     }
 }
 

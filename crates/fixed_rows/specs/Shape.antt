@@ -11,9 +11,6 @@ pub record Shape : Type 0 where
   pub skip : ℕ
   pub size : ℕ
 
-abbrev pub shape_of : (first skip size : ℕ) → Shape
-shape_of first skip size = record { first = first; skip = skip; size = size }
-
 -- from the start of one row's bytes to the start of the next
 abbrev pub step : Shape → ℕ
 step s = s.skip + s.size

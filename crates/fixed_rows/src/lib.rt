@@ -8,7 +8,7 @@
 ghost use Rattle.answer.specs.Told.{told};
 ghost use Rattle.answer.specs.Size.{largest_file};
 ghost use Rattle.std.specs.Prelude.{◌≡◌, ◌≤◌, ◌<◌, ◌+◌, ℕ, drop, length, IfOk};
-ghost use Rattle.fixed_rows.specs.Shape.{shape_of, row_at};
+ghost use Rattle.fixed_rows.specs.Shape.{Shape, step, row_at};
 ghost use Rattle.fixed_rows.specs.Check.{whole_rows, count_rows};
 ghost use Rattle.fixed_rows.specs.Read.{passing, read_start, find_row};
 ghost use Rattle.fixed_rows.specs.Jump.{start_of, jump_start, jump_to};
@@ -16,43 +16,42 @@ ghost use Rattle.fixed_rows.specs.From.{starts, start_from, row_from};
 
 use answer::{Refusal, Refused, Shown};
 
-// The rows of one kind of file. Each kind has rows of its own size, which take bytes.
+// The rows of one kind of file.
 pub trait FixedRows: Copy {
-    ghost first: { Self → ℕ };
-
-    ghost SKIP: { ℕ };
-
-    ghost SIZE: { ℕ };
-
-    // Of each row how many bytes are passed over in front, and how many are shown.
-    const SKIP: usize;
-
-    const SIZE: usize;
+    ghost shape: { Self → Shape };
 
     // Where the first row begins.
     fn first(self) -> usize
-        ensures { result ≡ first self };
+        ensures { result ≡ (shape self).first };
+
+    // The bytes of a row that are passed over in front, and those behind them, which are shown.
+    fn skip(self) -> usize
+        ensures { result ≡ (shape self).skip };
+
+    fn size(self) -> usize
+        ensures { result ≡ (shape self).size };
 
     // Where row `k` starts, computed.
     fn row_start(self, k: usize) -> usize
-        requires { start_of (first self) (SKIP + SIZE) k ≤ 9223372036854775807 }
-        ensures { result ≡ start_of (first self) (SKIP + SIZE) k };
+        requires { start_of (shape self).first (step (shape self)) k ≤ 9223372036854775807 }
+        ensures { result ≡ start_of (shape self).first (step (shape self)) k };
 
-    ghost takes_bytes: { 0 < SKIP + SIZE };
+    // Rows take bytes, no more than a file may have.
+    ghost takes_bytes: { (r : Self) → 0 < step (shape r) };
 
-    ghost is_small: { SKIP + SIZE ≤ largest_file };
+    ghost is_small: { (r : Self) → step (shape r) ≤ largest_file };
 }
 
 // From the start of one row's bytes to the start of the next.
-fn step<R: FixedRows>() -> usize
-    ensures { result ≡ R.SKIP + R.SIZE }
+fn step<R: FixedRows>(rows: R) -> usize
+    ensures { result ≡ step (R.shape rows) }
 {
-    R::SKIP + R::SIZE
+    rows.skip() + rows.size()
 }
 
 // The number of rows: 14, 16, 12.
 pub fn count<R: FixedRows>(rows: R, file: &[u8]) -> Result<usize, Refused>
-    ensures { told result ≡ count_rows (shape_of (R.first rows) R.SKIP R.SIZE) file.now }
+    ensures { told result ≡ count_rows (R.shape rows) file.now }
 {
     if answer::LARGEST_FILE < file.len() {
         return Err(Refused(Refusal::TooBig, 0));
@@ -61,16 +60,16 @@ pub fn count<R: FixedRows>(rows: R, file: &[u8]) -> Result<usize, Refused>
         return Err(Refused(Refusal::BadStart, 0));
     }
     let rest = file.len() - rows.first();
-    if rest % step::<R>() != 0 {
+    if rest % step(rows) != 0 {
         return Err(Refused(Refusal::Ragged, 0));
     }
-    Ok(rest / step::<R>())
+    Ok(rest / step(rows))
 }
 
 #[tactic(auto, using(crate::proofs::Passing::past_the_end, crate::proofs::Passing::passes_one, crate::proofs::Passing::arrives))]
 // Passes `k` rows from the first place on; 6 where no bytes are left.
 fn pass<R: FixedRows>(rows: R, file: &[u8], k: usize) -> Result<usize, Refused>
-    ensures passed { told result ≡ passing (R.SKIP + R.SIZE) k (R.first rows) (drop (R.first rows) file.now) }
+    ensures passed { told result ≡ passing (step (R.shape rows)) k (R.shape rows).first (drop (R.shape rows).first file.now) }
     ensures inside { IfOk result (λ start. start < length file.now) }
 {
     let mut at = rows.first();
@@ -78,54 +77,54 @@ fn pass<R: FixedRows>(rows: R, file: &[u8], k: usize) -> Result<usize, Refused>
         return Err(Refused(Refusal::NoRow, 0));
     }
     for _ in 0..k {
-        if file.len() - at <= step::<R>() {
+        if file.len() - at <= step(rows) {
             return Err(Refused(Refusal::NoRow, 0));
         }
-        at += step::<R>();
+        at += step(rows);
     }
     Ok(at)
 }
 
 // What is shown of the row whose bytes start at `start`.
-fn shown_at<R: FixedRows>(start: usize) -> Shown
+fn shown_at<R: FixedRows>(rows: R, start: usize) -> Shown
     requires { start ≤ largest_file }
-    ensures { result ≡ row_at (shape_of 0 R.SKIP R.SIZE) start }
+    ensures { result ≡ row_at (R.shape rows) start }
 {
-    answer::unlabelled(start + R::SKIP, R::SIZE)
+    answer::unlabelled(start + rows.skip(), rows.size())
 }
 
 // Row `k`, found by passing the rows before it: 14, 16, 12, 6.
 pub fn find_row<R: FixedRows>(rows: R, file: &[u8], k: usize) -> Result<Shown, Refused>
-    ensures { told result ≡ find_row (shape_of (R.first rows) R.SKIP R.SIZE) file.now k }
+    ensures { told result ≡ find_row (R.shape rows) file.now k }
 {
     count(rows, file)?;
-    Ok(shown_at::<R>(pass(rows, file, k)?))
+    Ok(shown_at(rows, pass(rows, file, k)?))
 }
 
 // Row `k`, found by computing its place: 14, 16, 12, 6. It is asked first whether there is such a row, so that no number wraps.
 pub fn jump_to<R: FixedRows>(rows: R, file: &[u8], k: usize) -> Result<Shown, Refused>
-    ensures { told result ≡ jump_to (shape_of (R.first rows) R.SKIP R.SIZE) file.now k }
+    ensures { told result ≡ jump_to (R.shape rows) file.now k }
 {
     if k < count(rows, file)? {
-        return Ok(shown_at::<R>(rows.row_start(k)));
+        return Ok(shown_at(rows, rows.row_start(k)));
     }
     Err(Refused(Refusal::NoRow, 0))
 }
 
 // Whether a row starts at the place `from`, in a file of so many bytes.
 fn row_starts<R: FixedRows>(rows: R, bytes: usize, from: usize) -> bool
-    ensures { result ≡ starts (R.first rows) (R.SKIP + R.SIZE) bytes from }
+    ensures { result ≡ starts (R.shape rows).first (step (R.shape rows)) bytes from }
 {
-    rows.first() <= from && from < bytes && (from - rows.first()) % step::<R>() == 0
+    rows.first() <= from && from < bytes && (from - rows.first()) % step(rows) == 0
 }
 
 // Going on: the row that starts at the place `from`: 14, 16, 12, and 6 where none does.
 pub fn row_from<R: FixedRows>(rows: R, file: &[u8], from: usize) -> Result<Shown, Refused>
-    ensures { told result ≡ row_from (shape_of (R.first rows) R.SKIP R.SIZE) file.now from }
+    ensures { told result ≡ row_from (R.shape rows) file.now from }
 {
     count(rows, file)?;
     if row_starts(rows, file.len(), from) {
-        return Ok(shown_at::<R>(from));
+        return Ok(shown_at(rows, from));
     }
     Err(Refused(Refusal::NoRow, 0))
 }

@@ -14,7 +14,7 @@ ghost use Rattle.fixed_rows.specs.Check.{count_rows};
 ghost use Rattle.fixed_rows.specs.Read.{find_row};
 ghost use Rattle.fixed_rows.specs.Jump.{start_of, jump_to};
 ghost use Rattle.fixed_rows.specs.From.{row_from};
-ghost use Rattle.waveform.specs.Rows.{prefix_size, samples_size, waveform};
+ghost use Rattle.waveform.specs.Rows.{waveform};
 ghost use Rattle.waveform.specs.Sample.{twice_amplitude};
 
 use answer::{Refused, Shown};
@@ -25,23 +25,24 @@ use fixed_rows::FixedRows;
 struct Waveform;
 
 impl FixedRows for Waveform {
-    ghost first = { λ w. 0 };
-
-    ghost SKIP = { prefix_size };
-
-    ghost SIZE = { samples_size };
+    ghost shape = { λ w. waveform };
 
     ghost takes_bytes = { Prim.search rules };
 
     ghost is_small = { Prim.search rules };
 
-    // The bytes of a row's prefix and of its samples.
-    const SKIP: usize = 32;
-
-    const SIZE: usize = 2048;
-
     fn first(self) -> usize {
         0
+    }
+
+    // The prefix.
+    fn skip(self) -> usize {
+        32
+    }
+
+    // The samples.
+    fn size(self) -> usize {
+        2048
     }
 
     // 2,080·k by shifts and sums, as 2,080 is 2,048 and 32. The prefixes of 64 rows are 2,048 bytes, as many as one row's
