@@ -1,17 +1,18 @@
 // Cassini short burst files (SBDR): whole records of 1,272 bytes from a first place on, which the
-// caller gives (document 02, item 1; source document 000, section 8). They are fixed rows:
-// `fixed_rows` has their check and both ways to a record. The fields of a record are left to `burst_fields`, windows of it to the reader.
+// caller gives (document 02, item 1; source document 000, section 8). They are one kind of fixed rows:
+// `fixed_rows` has their check and both ways to a record. The fields of a record are left to
+// `burst_fields`, windows of it to the reader.
 //
 // The caller vouches for the kind of the file and for the first place: nothing here looks into a
 // record.
 #![tactic(auto)]
 
 ghost use Rattle.answer.specs.Told.{told};
-ghost use Rattle.std.specs.Prelude.{◌≡◌, ℕ, ◌≤◌};
+ghost use Rattle.std.specs.Prelude.{◌≡◌};
 ghost use Rattle.std.proofs.Common.{rules};
 ghost use Rattle.fixed_rows.specs.Check.{count_rows};
 ghost use Rattle.fixed_rows.specs.Read.{find_row};
-ghost use Rattle.fixed_rows.specs.Jump.{start_of, jump_to};
+ghost use Rattle.fixed_rows.specs.Jump.{jump_to};
 ghost use Rattle.fixed_rows.specs.From.{row_from};
 ghost use Rattle.bursts.specs.Rows.{bursts};
 

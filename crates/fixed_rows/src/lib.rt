@@ -1,18 +1,18 @@
 // Rows of one size, one behind the other from a first place to the end of a file, whatever the size and
-// the place: how many there are, row k, found by passing the rows before it and by computing its place,
+// the place: how many there are, row k, found by passing the rows before it or by computing its place,
 // and the row that starts at a place. Renders what document 01 says of waveform rows and document 02,
-// item 1, of short bursts, for both. Each kind of row says how its places are computed; that the two
-// ways to a row agree is proved here.
+// item 1, of short bursts, for both. Each kind of rows says how the place of row k is computed; that the
+// two ways to a row agree is proved here.
 #![tactic(auto)]
 
 ghost use Rattle.answer.specs.Told.{told};
 ghost use Rattle.answer.specs.Size.{largest_file};
-ghost use Rattle.std.specs.Prelude.{◌≡◌, ◌≤◌, ◌<◌, ◌+◌, ℕ, drop, length, IfOk};
+ghost use Rattle.std.specs.Prelude.{◌≡◌, ◌≤◌, ◌<◌, drop, length, IfOk};
 ghost use Rattle.fixed_rows.specs.Shape.{Shape, step, row_at};
-ghost use Rattle.fixed_rows.specs.Check.{whole_rows, count_rows};
-ghost use Rattle.fixed_rows.specs.Read.{passing, read_start, find_row};
-ghost use Rattle.fixed_rows.specs.Jump.{start_of, jump_start, jump_to};
-ghost use Rattle.fixed_rows.specs.From.{starts, start_from, row_from};
+ghost use Rattle.fixed_rows.specs.Check.{count_rows};
+ghost use Rattle.fixed_rows.specs.Read.{passing, find_row};
+ghost use Rattle.fixed_rows.specs.Jump.{start_of, jump_to};
+ghost use Rattle.fixed_rows.specs.From.{starts, row_from};
 
 use answer::{Refusal, Refused, Shown};
 
@@ -66,8 +66,8 @@ pub fn count<R: FixedRows>(rows: R, file: &[u8]) -> Result<usize, Refused>
     Ok(rest / step(rows))
 }
 
+// Passes `k` rows from the first place on; 6 where no bytes are left. So the row found stands in front of bytes.
 #[tactic(auto, using(crate::proofs::Passing::past_the_end, crate::proofs::Passing::passes_one, crate::proofs::Passing::arrives))]
-// Passes `k` rows from the first place on; 6 where no bytes are left.
 fn pass<R: FixedRows>(rows: R, file: &[u8], k: usize) -> Result<usize, Refused>
     ensures passed { told result ≡ passing (step (R.shape rows)) k (R.shape rows).first (drop (R.shape rows).first file.now) }
     ensures inside { IfOk result (λ start. start < length file.now) }
@@ -101,7 +101,8 @@ pub fn find_row<R: FixedRows>(rows: R, file: &[u8], k: usize) -> Result<Shown, R
     Ok(shown_at(rows, pass(rows, file, k)?))
 }
 
-// Row `k`, found by computing its place: 14, 16, 12, 6. It is asked first whether there is such a row, so that no number wraps.
+// Row `k`, found by computing its place: 14, 16, 12, 6. It is asked first whether there is such a row, so
+// that no number wraps.
 pub fn jump_to<R: FixedRows>(rows: R, file: &[u8], k: usize) -> Result<Shown, Refused>
     ensures { told result ≡ jump_to (R.shape rows) file.now k }
 {

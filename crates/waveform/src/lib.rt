@@ -1,5 +1,5 @@
 // Cassini RPWS wideband (WBR) files: rows of 2,080 bytes, each a prefix of 32 and then 2,048 samples of one byte
-// (document 01, "Waveform files"; source document 003, appendix E). They are fixed rows: `fixed_rows` has
+// (document 01, "Waveform files"; source document 003, appendix E). They are one kind of fixed rows: `fixed_rows` has
 // their check and both ways to a row. Windows of a row are left to the reader.
 //
 // The caller vouches for the kind of the file. The RPWS waveform receiver's product (WFR) has rows of the same 2,080
@@ -8,11 +8,11 @@
 #![tactic(auto)]
 
 ghost use Rattle.answer.specs.Told.{told};
-ghost use Rattle.std.specs.Prelude.{◌≡◌, ℕ, ◌≤◌};
+ghost use Rattle.std.specs.Prelude.{◌≡◌};
 ghost use Rattle.std.proofs.Common.{rules};
 ghost use Rattle.fixed_rows.specs.Check.{count_rows};
 ghost use Rattle.fixed_rows.specs.Read.{find_row};
-ghost use Rattle.fixed_rows.specs.Jump.{start_of, jump_to};
+ghost use Rattle.fixed_rows.specs.Jump.{jump_to};
 ghost use Rattle.fixed_rows.specs.From.{row_from};
 ghost use Rattle.waveform.specs.Rows.{waveform};
 ghost use Rattle.waveform.specs.Sample.{twice_amplitude};
