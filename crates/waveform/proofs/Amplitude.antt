@@ -1,27 +1,16 @@
--- The numbers that sample bytes stand for: from −255 to 255, so that a signed integer of 64 bits holds them, and never 0.
+-- The numbers that sample bytes stand for: from −255 to 255, and never 0.
 use Prim.Native.Nat.{ℕ, suc, ◌*◌, ◌-◌, ◌≤◌, ◌<◌}
 use native.Mathlib.Omega.{arith}
 use mathlib.Core.Path.{◌≡◌, refl}
 use mathlib.Core.Bool.{Bool, true, false, cond}
-use lib.IntN.{ℤ, pos, negsuc, nat_abs, ◌-ℤ◌, ◌*ℤ◌}
+use lib.IntN.{ℤ, pos, negsuc, nat_abs}
 use lib.Dec.{ltb}
 use borrow.Author.Tests.{ltb-false}
-use mir.Syntax.{w64}
-use mir.Val.{SFits}
 use Rattle.waveform.specs.Sample.{twice_amplitude}
 
 -- twice a sample less a number, by its sign
 by_sign : ℕ → ℕ → Bool → ℤ
 by_sign s k below = cond below (negsuc (suc k - suc (2 * s))) (pos (2 * s - suc k))
-
--- a difference of small numbers fits, whatever is taken away
-pub difference_fits : (s k : ℕ) → s < 256 → k < 65536 → SFits w64 (pos 2 *ℤ pos s -ℤ pos (suc k))
-unfolding by_sign
-difference_fits s k h j = go (ltb (2 * s) (suc k))
-  where
-    go : (below : Bool) → SFits w64 (by_sign s k below)
-    go true = omega arith
-    go false = omega arith
 
 pub amplitude_range : (s : ℕ) → s < 256 → nat_abs (twice_amplitude s) ≤ 255
 unfolding by_sign
@@ -30,9 +19,6 @@ amplitude_range s h = go (ltb (2 * s) 255)
     go : (below : Bool) → nat_abs (by_sign s 254 below) ≤ 255
     go true = omega arith
     go false = omega arith
-
-pub amplitude_fits : (s : ℕ) → s < 256 → SFits w64 (twice_amplitude s)
-amplitude_fits s h = difference_fits s 254 h (omega arith)
 
 pub amplitude_is_never_0 : (s : ℕ) → twice_amplitude s ≡ pos 0 → ⊥
 unfolding by_sign
