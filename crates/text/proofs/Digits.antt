@@ -5,7 +5,7 @@ use native.Mathlib.Nat.{pow-zero, pow-suc, mul-le-mul_right, mul_assoc, pow-succ
 use native.Mathlib.Numerals.{add-one}
 use native.Mathlib.Omega.{arith}
 use mathlib.Core.Path.{◌≡◌, refl, ◌∙◌, sym, ap}
-use mathlib.Core.Bool.{Bool, true, false, and-false}
+use mathlib.Core.Bool.{Bool, true, false}
 use mathlib.Core.List.{List, [], ◌∷◌, ◌++◌}
 use Rattle.std.specs.Prelude.{Option, None, Some}
 use lib.ListN.{length, length-append}
@@ -25,13 +25,6 @@ a_digit_counts n b bs h k = simp (le-leb _ _ h, le-leb _ _ k)
 
 pub too_low_is_none : (n b : ℕ) (bs : List ℕ) → b < 48 → decimal n (b ∷ bs) ≡ None
 too_low_is_none n b bs h = simp (lt-leb _ _ h)
-
-pub too_high_is_none : (n b : ℕ) (bs : List ℕ) → 57 < b → decimal n (b ∷ bs) ≡ None
-too_high_is_none n b bs h = simp (lt-leb _ _ h, and-false)
-
--- one digit more makes a number ten times as large at most
-pub one_digit_more : (n d i : ℕ) → n < 10 ^ i → d ≤ 9 → n * 10 + d < 10 ^ (i + 1)
-one_digit_more n d i h k = omega (arith, pow-suc 10 i, ap (λ (j : ℕ). 10 ^ j) (add-one i))
 
 -- what is read after digits that were read goes on from their number
 pub read_on : (n : ℕ) (xs ys : List ℕ) (m : ℕ) → decimal n xs ≡ Some m → decimal n (xs ++ ys) ≡ decimal m ys
