@@ -39,7 +39,7 @@ ones_are_the_sum m h =
     ∙ from_the_left (m % 2) (m / 2 % 2) (m / 4 % 2) (m / 8 % 2) (m / 16 % 2)
 
 -- field 33's limits are 0 and 31
-limits_of_the_mask : limits_of (table_of Bursts) 33 ≡ answer (record { 0 = 33; 1 = pos 0; 2 = pos 31 })
+limits_of_the_mask : limits_of (table_of Bursts) 33 ≡ answer (record { number = 33; minimum = pos 0; maximum = pos 31 })
 unfolding burst_table
 limits_of_the_mask = refl
 
