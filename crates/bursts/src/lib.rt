@@ -17,6 +17,7 @@ ghost use Rattle.fixed_rows.specs.Jump.{start_of, jump_start, jump_to};
 ghost use Rattle.fixed_rows.specs.From.{row_from};
 ghost use Rattle.bursts.specs.Rows.{record_size, bursts};
 
+use answer::{Refused, Shown};
 
 // The bytes of a record.
 const RECORD: usize = 1272;
@@ -33,21 +34,21 @@ pub fn check(file: &[u8], first: usize) -> Result<usize, Refused>
 pub fn find_row(file: &[u8], first: usize, k: usize) -> Result<Shown, Refused>
     ensures { told result ≡ find_row (bursts first) file.now k }
 {
-    record_at(fixed_rows::read_start(file, first, RECORD, k))
+    Ok(record_at(fixed_rows::read_start(file, first, RECORD, k)?))
 }
 
 // The same record, found by computing its place: 14, 16, 12, 6.
 pub fn jump_to(file: &[u8], first: usize, k: usize) -> Result<Shown, Refused>
     ensures { told result ≡ jump_to (bursts first) file.now k }
 {
-    record_at(jump_start(file, first, k))
+    Ok(record_at(jump_start(file, first, k)?))
 }
 
 // Going on: the record that begins at place `from`: 14, 16, 12, and 6 where none begins there.
 pub fn row_from(file: &[u8], first: usize, from: usize) -> Result<Shown, Refused>
     ensures { told result ≡ row_from (bursts first) file.now from }
 {
-    record_at(fixed_rows::start_from(file, first, RECORD, from))
+    Ok(record_at(fixed_rows::start_from(file, first, RECORD, from)?))
 }
 
 // Where record `k` starts, computed. It is asked first whether there is such a record, so that no
@@ -55,10 +56,7 @@ pub fn row_from(file: &[u8], first: usize, from: usize) -> Result<Shown, Refused
 fn jump_start(file: &[u8], first: usize, k: usize) -> Result<usize, Refused>
     ensures { told result ≡ jump_start first record_size file.now k }
 {
-    match fixed_rows::row_numbered(file, first, RECORD, k) {
-        Ok(number) => Ok(record_start(first, number)),
-        Err(Refused(why, place)) => Err(Refused(why, place)),
-    }
+    Ok(record_start(first, fixed_rows::row_numbered(file, first, RECORD, k)?))
 }
 
 // The place of a record that lies in a file.
@@ -69,12 +67,9 @@ fn record_start(first: usize, k: usize) -> usize
     first + RECORD * k
 }
 
-// The record that starts at the place found.
-fn record_at(found: Result<usize, Refused>) -> Result<Shown, Refused>
-    ensures { told result ≡ mapped (row_at (bursts 0)) (told found) }
+// The record that starts at the place `start`.
+fn record_at(start: usize) -> Shown
+    ensures { result ≡ row_at (bursts 0) start }
 {
-    match found {
-        Ok(place) => Ok(answer::unlabelled(place, RECORD)),
-        Err(Refused(why, place)) => Err(Refused(why, place)),
-    }
+    answer::unlabelled(start, RECORD)
 }

@@ -67,25 +67,18 @@ fn pass(file: &[u8], first: usize, step: usize, k: usize) -> Result<usize, Refus
 pub fn read_start(file: &[u8], first: usize, step: usize, k: usize) -> Result<usize, Refused>
     ensures { told result ≡ read_start first step file.now k }
 {
-    match count(file, first, step) {
-        Ok(_) => pass(file, first, step, k),
-        Err(Refused(why, place)) => Err(Refused(why, place)),
-    }
+    count(file, first, step)?;
+    pass(file, first, step, k)
 }
 
 // The number `k`, where there is such a row: 14, 16, 12, 6.
 pub fn row_numbered(file: &[u8], first: usize, step: usize, k: usize) -> Result<usize, Refused>
     ensures { told result ≡ row_numbered first step file.now k }
 {
-    match count(file, first, step) {
-        Ok(rows) => {
-            if k < rows {
-                return Ok(k);
-            }
-            Err(Refused(Refusal::NoRow, 0))
-        }
-        Err(Refused(why, place)) => Err(Refused(why, place)),
+    if k < count(file, first, step)? {
+        return Ok(k);
     }
+    Err(Refused(Refusal::NoRow, 0))
 }
 
 // Whether a row starts at the place `from`, in a file of so many bytes.
@@ -109,13 +102,9 @@ fn row_starts(first: usize, step: usize, bytes: usize, from: usize) -> bool
 pub fn start_from(file: &[u8], first: usize, step: usize, from: usize) -> Result<usize, Refused>
     ensures { told result ≡ start_from first step file.now from }
 {
-    match count(file, first, step) {
-        Ok(_) => {
-            if row_starts(first, step, file.len(), from) {
-                return Ok(from);
-            }
-            Err(Refused(Refusal::NoRow, 0))
-        }
-        Err(Refused(why, place)) => Err(Refused(why, place)),
+    count(file, first, step)?;
+    if row_starts(first, step, file.len(), from) {
+        return Ok(from);
     }
+    Err(Refused(Refusal::NoRow, 0))
 }

@@ -20,6 +20,7 @@ ghost use Rattle.fixed_rows.specs.From.{row_from};
 ghost use Rattle.waveform.specs.Rows.{row_size, waveform};
 ghost use Rattle.waveform.specs.Sample.{twice_amplitude};
 
+use answer::{Refused, Shown};
 
 // The bytes of a row, of its prefix and of its samples.
 const ROW: usize = 2080;
@@ -39,21 +40,21 @@ pub fn check(file: &[u8]) -> Result<usize, Refused>
 pub fn find_row(file: &[u8], k: usize) -> Result<Shown, Refused>
     ensures { told result ≡ find_row waveform file.now k }
 {
-    samples_from(fixed_rows::read_start(file, 0, ROW, k))
+    Ok(samples_at(fixed_rows::read_start(file, 0, ROW, k)?))
 }
 
 // The same samples, found by computing the row's place: 14, 12, 6.
 pub fn jump_to(file: &[u8], k: usize) -> Result<Shown, Refused>
     ensures { told result ≡ jump_to waveform file.now k }
 {
-    samples_from(jump_start(file, k))
+    Ok(samples_at(jump_start(file, k)?))
 }
 
 // Going on: the samples of the row that begins at place `from`: 14, 12, and 6 where none begins there.
 pub fn row_from(file: &[u8], from: usize) -> Result<Shown, Refused>
     ensures { told result ≡ row_from waveform file.now from }
 {
-    samples_from(fixed_rows::start_from(file, 0, ROW, from))
+    Ok(samples_at(fixed_rows::start_from(file, 0, ROW, from)?))
 }
 
 // Twice the amplitude that a sample byte stands for, from -255 to 255 and never 0.
@@ -67,10 +68,7 @@ pub fn sample(s: u8) -> i64
 fn jump_start(file: &[u8], k: usize) -> Result<usize, Refused>
     ensures { told result ≡ jump_start 0 row_size file.now k }
 {
-    match fixed_rows::row_numbered(file, 0, ROW, k) {
-        Ok(number) => Ok(row_start(number)),
-        Err(Refused(why, place)) => Err(Refused(why, place)),
-    }
+    Ok(row_start(fixed_rows::row_numbered(file, 0, ROW, k)?))
 }
 
 // The place of the prefix of a row that lies in a file: 2,080·k by shifts and sums, as 2,080 is 2,048 and 32. The prefixes
@@ -85,16 +83,10 @@ fn row_start(k: usize) -> usize
     (parts << 11) + (left << 5)
 }
 
-// The samples of a row that starts at the place found.
-fn samples_from(found: Result<usize, Refused>) -> Result<Shown, Refused>
-    requires { (p : ℕ) → told found ≡ answer p → p ≤ largest_file }
-    ensures { told result ≡ mapped (row_at waveform) (told found) }
+// The samples of the row that starts at the place `start`.
+fn samples_at(start: usize) -> Shown
+    requires { start ≤ largest_file }
+    ensures { result ≡ row_at waveform start }
 {
-    match found {
-        Ok(start) => {
-            let place = start + PREFIX;
-            Ok(answer::unlabelled(place, SAMPLES))
-        }
-        Err(Refused(why, place)) => Err(Refused(why, place)),
-    }
+    answer::unlabelled(start + PREFIX, SAMPLES)
 }

@@ -2,7 +2,7 @@
 -- to be found from `at` on with `left` rows still to pass. Each turn passes one row (`passes_one`), so that `left` falls.
 use Prim.Native.Nat.{ℕ, ◌+◌, ◌-◌}
 use native.Mathlib.Omega.{arith}
-use mathlib.Core.Path.{refl, ◌∙◌, sym, ap}
+use mathlib.Core.Path.{◌∙◌, sym, ap}
 use lib.ListN.{drop}
 use Rattle.fixed_rows.specs.Read.{passing}
 use Rattle.fixed_rows.proofs.Passing.{arrives, passes_one, past_the_end}
@@ -12,12 +12,6 @@ pub returns-then-file-first : goal.returns-then-file-first
 returns-then-file-first c =
     let a = c.args in
     sym (past_the_end a.step a.file.now a.first a.k c.if-file-first.true)
-
-pub loop-left-init : goal.loop-left-init
-loop-left-init c = (c.if-file-first.false, refl)
-
-pub overflow_sub-file : goal.overflow_sub-file
-overflow_sub-file c = omega (arith, c.loop-left.invariant.0)
 
 pub returns-then-file-at : goal.returns-then-file-at
 returns-then-file-at c =
