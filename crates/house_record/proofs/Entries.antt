@@ -34,7 +34,7 @@ bytes_of_entries (suc n) s h b =
     ∙ take-append-drop 4 s
 
 -- entry i
-entry_at : (n i : ℕ) (s : List ℕ) → i < n → get_or (entries_of n s) i 0 ≡ le_number (bytes_at s (4 * i) 4)
+pub entry_at : (n i : ℕ) (s : List ℕ) → i < n → get_or (entries_of n s) i 0 ≡ le_number (bytes_at s (4 * i) 4)
 entry_at zero i s h = absurd (omega arith)
 entry_at (suc n) zero s h = refl
 entry_at (suc n) (suc i) s h =

@@ -6,34 +6,24 @@ use mathlib.Core.Bool.{true, false, ◌&&◌, and-false}
 use mathlib.Core.List.{List}
 use lib.ListN.{length, get_or, drop}
 use lib.Dec.{leb, eqb}
-use borrow.Author.Tests.{le-leb, lt-leb, eq-eqb, ne_eqb, leb-true, eqb-true}
+use borrow.Author.Tests.{le-leb, eq-eqb, ne_eqb, leb-true, eqb-true}
 use Rattle.answer.specs.Outcome.{answer, refuse}
 use Rattle.answer.specs.Window.{bytes_at}
 use Rattle.answer.proofs.Outcomes.{first_answered, passed}
 use Rattle.answer.proofs.Tests.{both_hold}
 use Rattle.little.specs.LittleEndian.{le_number}
 use Rattle.house_record.specs.Record.{in_room, number_at, entries_of, is_kept, read_as, load_as}
-use Rattle.house_record.proofs.Entries.{length_entries, entry_place}
+use Rattle.house_record.proofs.Entries.{entry_place}
 
--- four bytes that are not all there, and four that are
-module _ (s : List ℕ) (at : ℕ) where
-  pub not_all_there : length s < at + 4 → number_at s at ≡ 0
-  not_all_there h = simp (lt-leb _ _ h)
-
-  pub all_there : at + 4 ≤ length s → number_at s at ≡ le_number (bytes_at s at 4)
-  all_there h = simp (le-leb _ _ h)
+-- four bytes that are all there
+pub all_there : (s : List ℕ) (at : ℕ) → at + 4 ≤ length s → number_at s at ≡ le_number (bytes_at s at 4)
+all_there s at h = simp (le-leb _ _ h)
 
 -- entry i of those that begin at `first`, where they are all there
 pub entry_from_place : (first n i : ℕ) (s : List ℕ) → i < n → first + 4 * n ≤ length s → get_or (entries_of n (drop first s)) i 0 ≡ number_at s (first + 4 * i)
 entry_from_place first n i s h fits = entry_place first n i s h ∙ sym (all_there s (first + 4 * i) (omega arith))
 
 module _ (kind first : ℕ) (s : List ℕ) where
-  pub too_few_bytes : length s < first → is_kept kind first s ≡ false
-  too_few_bytes h = simp (lt-leb _ _ h)
-
-  pub wrong_length : {follows : ℕ} → follows ≡ le_number (bytes_at s 0 4) → (follows ≡ length s - 4 → ⊥) → is_kept kind first s ≡ false
-  wrong_length is h = simp (← is, ne_eqb _ _ h, and-false)
-
   pub wrong_kind : {found : ℕ} → found ≡ le_number (bytes_at s 4 2) → (found ≡ kind → ⊥) → is_kept kind first s ≡ false
   wrong_kind is h = simp (← is, ne_eqb _ _ h, and-false)
 
@@ -61,21 +51,6 @@ accepted kind first s kept =
       of_kind = eqb-true _ _ of_kind;
       whole = eqb-true _ _ whole;
     }
-
--- the reader of records of any kind
-module _ (kind first : ℕ) (s : List ℕ) (room : ℕ) where
-  pub not_kept : is_kept kind first s ≡ false → load_as kind first s room ≡ refuse 13 0
-  unfolding read_as load_as
-  not_kept h = simp h
-
-  module _ (kept : is_kept kind first s ≡ true) where
-    pub no_room : room < (length s - first) / 4 → load_as kind first s room ≡ refuse 8 0
-    unfolding read_as load_as
-    no_room h = simp (kept, length_entries, lt-leb _ _ h)
-
-    pub loaded : (length s - first) / 4 ≤ room → load_as kind first s room ≡ answer (entries_of ((length s - first) / 4) (drop first s))
-    unfolding read_as load_as
-    loaded h = simp (kept, length_entries, le-leb _ _ h)
 
 -- bytes that a reader took are a record
 pub loaded_is_kept : (kind first : ℕ) (s : List ℕ) (room : ℕ) (w : List ℕ) → load_as kind first s room ≡ answer w → is_kept kind first s ≡ true

@@ -1,11 +1,11 @@
 -- How long a record is, its two pieces, and whether there is room for them.
-use Prim.Native.Nat.{ℕ, ◌+◌, ◌*◌, ◌≤◌, ◌<◌}
+use Prim.Native.Nat.{ℕ, ◌+◌, ◌*◌, ◌≤◌}
 use native.Mathlib.Omega.{arith}
 use mathlib.Core.Path.{◌≡◌, ap}
 use mathlib.Core.List.{List, ◌++◌}
 use lib.ListN.{length, length-append}
-use borrow.Author.Tests.{le-leb, lt-leb}
-use Rattle.answer.specs.Outcome.{answer, refuse}
+use borrow.Author.Tests.{le-leb}
+use Rattle.answer.specs.Outcome.{answer}
 use Rattle.little.specs.LittleEndian.{le}
 use Rattle.house_record.specs.Record.{entry_bytes, kept_as, in_room}
 use Rattle.house_record.proofs.Entries.{length_entry_bytes}
@@ -24,10 +24,6 @@ in_two_pieces kind between xs follows is =
     omega (arith, is, length-append between (entry_bytes xs), length_entry_bytes xs) in
     ap (λ (n : ℕ). le 4 n ++ (le 2 kind ++ (between ++ entry_bytes xs))) size
 
--- what is written, and whether there is room for it
-module _ (room : ℕ) (w : List ℕ) where
-  pub no_room_for : room < length w → in_room room w ≡ refuse 8 0
-  no_room_for h = simp (lt-leb _ _ h)
-
-  pub room_for : length w ≤ room → in_room room w ≡ answer w
-  room_for h = simp (le-leb _ _ h)
+-- what is written where there is room for it
+pub room_for : (room : ℕ) (w : List ℕ) → length w ≤ room → in_room room w ≡ answer w
+room_for room w h = simp (le-leb _ _ h)

@@ -7,8 +7,7 @@
 ghost use Rattle.answer.specs.Told.{told};
 ghost use Rattle.std.specs.Prelude.{◌≡◌, ◌++◌, ◌+◌, ◌*◌, ◌≤◌, length, drop};
 ghost use Rattle.answer.specs.Filled.{Writes};
-ghost use Rattle.answer.specs.Window.{bytes_at};
-ghost use Rattle.little.specs.LittleEndian.{le_number};
+ghost use Rattle.little.specs.LittleEndian.{le};
 ghost use Rattle.house_record.specs.Record.{in_room, number_at, entries_of, is_kept, load_as};
 
 use answer::{Refusal, Refused};
@@ -16,33 +15,14 @@ use answer::{Refusal, Refused};
 // The bytes of the length and the kind, in front of all else.
 pub const FRONT: usize = 6;
 
-// The number in the two bytes from place `at` on.
-fn two_at(bytes: &[u8], at: usize) -> u32
-    requires { at + 2 ≤ length bytes.now }
-    ensures { result ≡ le_number (bytes_at bytes.now at 2) }
-{
-    little::two(bytes[at], bytes[at + 1])
-}
-
-// The number in the four bytes from place `at` on.
-fn four_at(bytes: &[u8], at: usize) -> u32
-    requires { at + 4 ≤ length bytes.now }
-    ensures { result ≡ le_number (bytes_at bytes.now at 4) }
-{
-    little::four(bytes[at], bytes[at + 1], bytes[at + 2], bytes[at + 3])
-}
-
 // The number in the four bytes from place `at` on; 0 where not all four are there.
 pub fn number_at(bytes: &[u8], at: usize) -> u32
     ensures { result ≡ number_at bytes.now at }
 {
-    if bytes.len() < 4 {
+    if bytes.len() < 4 || bytes.len() - 4 < at {
         return 0;
     }
-    if bytes.len() - 4 < at {
-        return 0;
-    }
-    four_at(bytes, at)
+    little::four_at(bytes, at)
 }
 
 // Whether these bytes are a whole record of this kind, with so many bytes between the kind and the
@@ -50,39 +30,26 @@ pub fn number_at(bytes: &[u8], at: usize) -> u32
 pub fn is_record(kind: u32, between: usize, bytes: &[u8]) -> bool
     ensures { result ≡ is_kept kind (6 + between) bytes.now }
 {
-    if bytes.len() < FRONT {
-        return false;
-    }
-    let body = bytes.len() - FRONT;
-    if body < between {
-        return false;
-    }
-    let follows = four_at(bytes, 0) as usize;
-    if follows != bytes.len() - 4 {
-        return false;
-    }
-    let found = two_at(bytes, 4);
-    if found != kind {
-        return false;
-    }
-    (body - between) % 4 == 0
+    FRONT <= bytes.len()
+        && between <= bytes.len() - FRONT
+        && little::four_at(bytes, 0) as usize == bytes.len() - 4
+        && little::two_at(bytes, 4) == kind
+        && (bytes.len() - FRONT - between) % 4 == 0
 }
 
-// Reads so many entries from place `first` on to the front of `list`.
-fn take_entries(bytes: &[u8], first: usize, count: usize, list: &mut [u32])
-    requires { (first + 4 * count ≤ length bytes.now) × (count ≤ length list.old) }
-    ensures { list.new ≡ entries_of count (drop first bytes.now) ++ drop count list.old }
+// Reads as many entries as the list has from bytes that are just so many.
+fn take_entries(bytes: &[u8], list: &mut [u32])
+    requires { length bytes.now ≡ 4 * length list.old }
+    ensures { list.new ≡ entries_of (length list.old) bytes.now }
 {
-    let mut i: usize = 0;
-    while i < count {
-        let at = first + 4 * i;
-        list[i] = four_at(bytes, at);
-        i += 1;
+    for (i, entry) in list.iter_mut().enumerate() {
+        *entry = little::four_at(bytes, 4 * i);
     }
 }
 
 // Reads the list that a record of this kind keeps, with so many bytes between the kind and the entries,
 // to the front of `list`, and answers how many entries it has: 13, then 8.
+#[tactic(auto, unfolding(crate::specs::Record::load_as, crate::specs::Record::read_as), using(crate::proofs::Entries::length_entries))]
 pub fn load(kind: u32, between: usize, bytes: &[u8], list: &mut [u32]) -> Result<usize, Refused>
     ensures { Writes (load_as kind (6 + between) bytes.now (length list.old))
         list.old (told result) list.new }
@@ -90,13 +57,27 @@ pub fn load(kind: u32, between: usize, bytes: &[u8], list: &mut [u32]) -> Result
     if !is_record(kind, between, bytes) {
         return Err(Refused(Refusal::BadKept, 0));
     }
-    let first = FRONT + between;
-    let count = (bytes.len() - first) / 4;
+    let entries = &bytes[FRONT + between..];
+    let count = entries.len() / 4;
     if list.len() < count {
         return Err(Refused(Refusal::Small, 0));
     }
-    take_entries(bytes, first, count, list);
+    take_entries(entries, &mut list[..count]);
     Ok(count)
+}
+
+// What stands in front of a record's entries: its length, how many bytes follow it, its kind, and what
+// this kind has between the kind and the entries.
+pub fn front<const N: usize>(follows: u32, kind: u32, between: &[u8]) -> [u8; N]
+    requires { N ≡ 6 + length between.now }
+    ensures { result ≡ le 4 follows ++ (le 2 kind ++ between.now) }
+{
+    let mut bytes = [0; N];
+    let whole = &mut bytes[..];
+    whole[..4].copy_from_slice(&little::bytes_of(follows));
+    whole[4..FRONT].copy_from_slice(&little::bytes_of(kind)[..2]);
+    whole[FRONT..].copy_from_slice(between);
+    bytes
 }
 
 // Writes a record in two pieces, what stands in front of its entries and then their bytes, to the front
@@ -106,10 +87,7 @@ pub fn put(front: &[u8], entries: &[u8], out: &mut [u8]) -> Result<usize, Refuse
         out.old (told result) out.new }
 {
     let at = front.len();
-    if out.len() < at {
-        return Err(Refused(Refusal::Small, 0));
-    }
-    if out.len() - at < entries.len() {
+    if out.len() < at || out.len() - at < entries.len() {
         return Err(Refused(Refusal::Small, 0));
     }
     let size = at + entries.len();

@@ -1,45 +1,63 @@
-// Little-endian numbers: the number that two or four bytes are, the lowest first, and the four bytes of
-// a number (document 01, "Kept form"; document 02, items 1 and 9). Where the bytes stand is left to the
-// crates above.
+// Little-endian numbers: the number that bytes are, the lowest first, and the four bytes of a number
+// (document 01, "Kept form"; document 02, items 1 and 9). What stands where is left to the crates
+// above.
 #![tactic(auto)]
 
-ghost use Rattle.std.specs.Prelude.{◌≡◌, [], ◌∷◌, ◌%◌, ◌<◌};
+ghost use Rattle.std.specs.Prelude.{◌≡◌, ◌+◌, ◌<◌, ◌≤◌, [], ◌∷◌, length};
+ghost use Rattle.answer.specs.Window.{bytes_at};
 ghost use Rattle.little.specs.LittleEndian.{le, le_number};
-
-// A byte as a number to calculate with.
-fn wide(byte: u8) -> u32
-    ensures { (result ≡ byte) × (result < 256) }
-{
-    byte as u32
-}
 
 // The number that two bytes are.
 pub fn two(a: u8, b: u8) -> u32
     ensures { (result ≡ le_number (a ∷ b ∷ [])) × (result < 65536) }
 {
-    wide(a) + 256 * wide(b)
+    u32::from(u16::from_le_bytes([a, b]))
 }
 
 // The number that four bytes are.
 pub fn four(a: u8, b: u8, c: u8, d: u8) -> u32
     ensures { result ≡ le_number (a ∷ b ∷ c ∷ d ∷ []) }
 {
-    two(a, b) + 65536 * two(c, d)
+    u32::from_le_bytes([a, b, c, d])
 }
 
-// The lowest byte of a number.
-fn lowest(n: u32) -> u8
-    ensures { result ≡ n % 256 }
+// The N bytes from place `at` on.
+fn array_at<const N: usize>(bytes: &[u8], at: usize) -> [u8; N]
+    requires { at + N ≤ length bytes.now }
+    ensures { result ≡ bytes_at bytes.now at N }
 {
-    (n % 256) as u8
+    let mut part = [0; N];
+    part.copy_from_slice(&bytes[at..at + N]);
+    part
+}
+
+// The number in the two bytes from place `at` on.
+pub fn two_at(bytes: &[u8], at: usize) -> u32
+    requires { at + 2 ≤ length bytes.now }
+    ensures { result ≡ le_number (bytes_at bytes.now at 2) }
+{
+    u32::from(u16::from_le_bytes(array_at(bytes, at)))
+}
+
+// The number in the four bytes from place `at` on.
+pub fn four_at(bytes: &[u8], at: usize) -> u32
+    requires { at + 4 ≤ length bytes.now }
+    ensures { result ≡ le_number (bytes_at bytes.now at 4) }
+{
+    u32::from_le_bytes(array_at(bytes, at))
+}
+
+// The number in the eight bytes from place `at` on.
+pub fn eight_at(bytes: &[u8], at: usize) -> u64
+    requires { at + 8 ≤ length bytes.now }
+    ensures { result ≡ le_number (bytes_at bytes.now at 8) }
+{
+    u64::from_le_bytes(array_at(bytes, at))
 }
 
 // The four bytes of a number.
 pub fn bytes_of(n: u32) -> [u8; 4]
     ensures { result ≡ le 4 n }
 {
-    let n1 = n / 256;
-    let n2 = n1 / 256;
-    let n3 = n2 / 256;
-    [lowest(n), lowest(n1), lowest(n2), lowest(n3)]
+    n.to_le_bytes()
 }

@@ -1,43 +1,25 @@
--- `house_record::take_entries` meets its contract. The measure is how many entries are left; the invariant is `Putting`.
-use Prim.Native.Nat.{ℕ}
-use native.Mathlib.Nat.{le_of_eq}
-use native.Mathlib.Omega.{arith}
-use mathlib.Core.Path.{◌≡◌, ◌∙◌, sym, ap}
-use mathlib.Core.List.{List, ◌++◌}
-use lib.ListN.{length, drop}
-use lib.Seq.{take_all}
-use Rattle.answer.proofs.Writers.{nothing_put, one_put, same_long, all_put}
+-- `house_record::take_entries` meets its contract: a turn of the loop writes entry i.
+use Rattle.std.proofs.Common.{◌++◌, length, arith, ◌∙◌, sym}
+use mathlib.Core.Path.{ap₂}
+use mathlib.Core.List.{append-nil}
+use Rattle.std.proofs.lemmas.List.{take_all, drop_all}
+use Rattle.answer.proofs.Writers.{one_put, all_put}
 use Rattle.house_record.specs.Record.{entries_of}
-use Rattle.house_record.proofs.Entries.{length_entries, entry_place}
+use Rattle.house_record.proofs.Entries.{length_entries, entry_at}
 use Rattle.house_record.proofs.take_entries.Goals as goal
-use Rattle.house_record.proofs.take_entries.Goals.{At-loop-i}
-
--- the list keeps its length
-long : (c : At-loop-i) → length c.loop-i.list ≡ length c.args.list.now
-long c =
-    let a = c.args in
-    same_long (entries_of a.count (drop a.first a.bytes.now)) a.list.now a.count c.loop-i.list c.loop-i.i c.loop-i.invariant (le_of_eq (sym (length_entries a.count (drop a.first a.bytes.now)))) c.requires.1
-
-pub loop-i-init : goal.loop-i-init
-loop-i-init c =
-    let a = c.args in
-    nothing_put (entries_of a.count (drop a.first a.bytes.now)) a.list.now a.count
-
-pub bounds-list-i : goal.bounds-list-i
-bounds-list-i c = omega (arith, long (goal.at.bounds-list-i c).At-loop-i, c.requires.1, c.loop-i-test.true)
 
 pub loop-i-preserved : goal.loop-i-preserved
 loop-i-preserved c =
-    let a = c.args in
-    let i = c.loop-i.i in
-    let xs = entries_of a.count (drop a.first a.bytes.now) in
-    one_put xs a.list.now a.count c.loop-i.list i c.loop-i.invariant (le_of_eq (sym (length_entries a.count (drop a.first a.bytes.now)))) c.requires.1 c.four_at.result c.loop-i-test.true
-    (c.four_at.ensures ∙ sym (entry_place a.first a.count i a.bytes.now c.loop-i-test.true))
+    let n = length c.args.list.now in
+    let bytes = c.args.bytes.now in
+    one_put (entries_of n bytes) c.args.list.now n c.loop-i.list c.loop-i.i c.loop-i.invariant (omega (arith, length_entries n bytes)) (omega arith) c.four_at.result (omega arith)
+    (c.four_at.ensures ∙ sym (entry_at n c.loop-i.i bytes (omega arith)))
 
 pub returns : goal.returns
 returns c =
-    let w = c.loop-i in
-    let a = c.args in
-    let xs = entries_of a.count (drop a.first a.bytes.now) in
-    all_put xs a.list.now a.count w.list w.i w.invariant c.loop-i-test.false
-    ∙ ap (λ (front : List ℕ). front ++ drop a.count a.list.now) (take_all a.count xs (le_of_eq (length_entries a.count (drop a.first a.bytes.now))))
+    let old = c.args.list.now in
+    let n = length old in
+    let xs = entries_of n c.args.bytes.now in
+    all_put xs old n c.loop-i.list c.loop-i.i c.loop-i.invariant (omega arith)
+    ∙ ap₂ ◌++◌ (take_all n xs (omega (arith, length_entries n c.args.bytes.now))) (drop_all n old (omega arith))
+    ∙ append-nil xs
