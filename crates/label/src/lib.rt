@@ -86,8 +86,8 @@ fn is_code(b: u8) -> bool
 fn number_of(f: Four) -> usize
     ensures { OneNumber f result }
 {
-    let high = answer::wide(f.d) * 256 + answer::wide(f.c);
-    let low = answer::wide(f.b) * 256 + answer::wide(f.a);
+    let high = usize::from(f.d) * 256 + usize::from(f.c);
+    let low = usize::from(f.b) * 256 + usize::from(f.a);
     high * 65536 + low
 }
 
@@ -182,7 +182,7 @@ fn digits_after(b: &[u8], spaces: usize) -> Field
     let mut n: usize = 0;
     let mut i = spaces;
     while i < FIELD {
-        let digit = answer::wide(b[HEAD + i]);
+        let digit = usize::from(b[HEAD + i]);
         if digit < 48 {
             return Field::Bad;
         }
@@ -212,7 +212,7 @@ fn pair_at(b: &[u8], i: usize) -> usize
     requires { i + 2 ≤ size b.now }
     ensures { (result ≡ get_or b.now i 0 * 256 + get_or b.now (i + 1) 0) × (result < 65536) }
 {
-    answer::wide(b[i]) * 256 + answer::wide(b[i + 1])
+    usize::from(b[i]) * 256 + usize::from(b[i + 1])
 }
 
 // The binary number in the length field of a label's twenty bytes, most significant byte first. By

@@ -17,13 +17,12 @@ use label::Versions;
 use sfdu::Mark;
 
 // The check of a labelled file, with labels of these versions: how many rows it has, or its first fault.
+#[tactic(auto, using(crate::proofs::Seen::counts_so_many, crate::proofs::Seen::meets_the_fault), unfolding(sfdu::specs::Check::check_labelled))]
 pub fn check(versions: Versions, file: &[u8]) -> Result<usize, Refused>
     ensures { told result ≡ check_labelled versions file.now }
 {
-    match sfdu::search_file(versions, file, 0) {
-        Ok(seen) => Ok(seen.rows),
-        Err(Refused(why, place)) => Err(Refused(why, place)),
-    }
+    let seen = sfdu::search_file(versions, file, 0)?;
+    Ok(seen.rows)
 }
 
 // The row that was marked, whole.
@@ -31,15 +30,17 @@ fn marked_row(mark: Mark) -> Shown
     requires { mark.label ≤ largest_file }
     ensures { result ≡ whole (row_marked mark) }
 {
-    let place = mark.label + label::LABEL;
     Shown {
         part: Part {
-            place,
+            place: mark.label + label::LABEL,
             count: mark.size,
         },
         address: Address {
             label: mark.label,
-            nesting: Nesting::Known(mark.depth, mark.outermost),
+            nesting: Some(Nesting {
+                depth: mark.depth,
+                outermost: mark.outermost,
+            }),
         },
     }
 }
@@ -49,14 +50,9 @@ fn marked_row(mark: Mark) -> Shown
 pub fn find_row(versions: Versions, file: &[u8], k: usize) -> Result<Shown, Refused>
     ensures { told result ≡ find_row versions file.now k }
 {
-    match sfdu::search_file(versions, file, k) {
-        Ok(seen) => {
-            if k < seen.rows {
-                let mark = seen.mark;
-                return Ok(marked_row(mark));
-            }
-            Err(Refused(Refusal::NoRow, 0))
-        }
-        Err(Refused(why, place)) => Err(Refused(why, place)),
+    let seen = sfdu::search_file(versions, file, k)?;
+    match seen.mark {
+        Some(mark) => Ok(marked_row(mark)),
+        None => Err(Refused(Refusal::NoRow, 0)),
     }
 }

@@ -3,7 +3,6 @@
 -- allowed (document 02, item 11).
 use Rattle.std.specs.Prelude.{ℕ, zero, suc, Bool, true, false, ◌&&◌, List, [], ◌∷◌, length, leb, eqb}
 use Rattle.answer.specs.Outcome.{Outcome, answer, refuse, need, and_then}
-use Rattle.answer.specs.Refusal.{number_of}
 use Rattle.label.specs.declared.Versions.{Versions}
 use Rattle.sfdu.specs.Row.{Row}
 use Rattle.sfdu.specs.Check.{rows_of_file}
@@ -47,4 +46,3 @@ check_index versions f xs = and_then (rows_of_file versions f) (λ rows. need (s
 abbrev pub place_found : Outcome Leaf → ℕ
 place_found (answer x) = x.place
 place_found (refuse n p) = 0
-

@@ -4,7 +4,7 @@
 #![tactic(auto)]
 
 ghost use Rattle.answer.specs.Told.{told};
-ghost use Rattle.std.specs.Prelude.{◌≡◌, ◌+◌, ◌/◌, ◌≤◌, ◌++◌, length, take, drop};
+ghost use Rattle.std.specs.Prelude.{◌≡◌, ℕ, ◌+◌, ◌/◌, ◌≤◌, ◌<◌, List, ◌++◌, length, take, drop, get_or};
 ghost use Rattle.answer.specs.Outcome.{and_then, mapped};
 ghost use Rattle.answer.specs.Size.{largest_file};
 ghost use Rattle.answer.specs.Filled.{filled};
@@ -14,7 +14,7 @@ ghost use Rattle.row_index.specs.Index.{index_of, built_of, build_index, same, c
 ghost use Rattle.row_index.specs.Jump.{jump_to};
 ghost use Rattle.row_index.specs.Private.{the_index};
 
-use answer::{Refusal, Refused};
+use answer::{Refusal, Refused, Shown};
 use label::Versions;
 
 // How many rows an entry stands for.
@@ -25,6 +25,32 @@ pub const GROUP: usize = 16;
 pub struct Built {
     pub entries: usize,
     pub rows: usize,
+}
+
+// A list of entries, wherever they stand: numbers in memory, or the bytes of a record.
+pub trait IndexList: Copy {
+    ghost entries: { Self → List ℕ };
+
+    // How many there are.
+    fn count(self) -> usize
+        ensures { result ≡ length (entries self) };
+
+    // Entry `i`.
+    fn entry(self, i: usize) -> usize
+        requires { i < length (entries self) }
+        ensures { result ≡ get_or (entries self) i 0 };
+}
+
+impl IndexList for &[u32] {
+    ghost entries = { λ list. list.now };
+
+    fn count(self) -> usize {
+        self.len()
+    }
+
+    fn entry(self, i: usize) -> usize {
+        self[i] as usize
+    }
 }
 
 // Row k, whole, by the list: the entry of its group of sixteen, and then a walk. Its depth is absent.
@@ -61,34 +87,30 @@ fn write_entries(versions: Versions, file: &[u8], entries: usize, list: &mut [u3
     requires { (length file.now ≤ largest_file) × (entries ≤ length (the_index versions file.now)) × (entries ≤ length list.old) }
     ensures { list.new ≡ take entries (the_index versions file.now) ++ drop entries list.old }
 {
-    let mut i: usize = 0;
     let mut from: usize = 0;
     let mut leaves: usize = 0;
-    while i < entries {
+    for i in 0..entries {
         let place = entry_from(versions, file, from, leaves);
         list[i] = place as u32;
         from = place;
         leaves = GROUP;
-        i += 1;
     }
 }
 
 // Whether the list is the file's index, where it has as many entries.
-fn entries_agree(versions: Versions, file: &[u8], list: &[u32]) -> bool
-    requires { length list.now ≡ length (the_index versions file.now) }
-    ensures { result ≡ same list.now (the_index versions file.now) }
+fn entries_agree<E: IndexList>(versions: Versions, file: &[u8], list: E) -> bool
+    requires { length (E.entries list) ≡ length (the_index versions file.now) }
+    ensures { result ≡ same (E.entries list) (the_index versions file.now) }
 {
-    let mut done: usize = 0;
     let mut from: usize = 0;
     let mut leaves: usize = 0;
-    while done < list.len() {
+    for i in 0..list.count() {
         let place = entry_from(versions, file, from, leaves);
-        if list[done] as usize != place {
+        if list.entry(i) != place {
             return false;
         }
         from = place;
         leaves = GROUP;
-        done += 1;
     }
     true
 }
@@ -97,11 +119,7 @@ fn entries_agree(versions: Versions, file: &[u8], list: &[u32]) -> bool
 pub fn groups(rows: usize) -> usize
     ensures { result ≡ (rows + 15) / 16 }
 {
-    let whole = rows / GROUP;
-    if rows % GROUP == 0 {
-        return whole;
-    }
-    whole + 1
+    rows.div_ceil(GROUP)
 }
 
 // Builds the index: writes its entries to the front of the list, and leaves the rest as it is.
@@ -110,44 +128,37 @@ pub fn build_index(versions: Versions, file: &[u8], list: &mut [u32]) -> Result<
     ensures leaves { list.new ≡ filled (mapped index_of (build_index versions file.now (length list.old)))
         list.old }
 {
-    match labelled::check(versions, file) {
-        Err(Refused(why, place)) => Err(Refused(why, place)),
-        Ok(rows) => {
-            let entries = groups(rows);
-            if list.len() < entries {
-                return Err(Refused(Refusal::Small, 0));
-            }
-            write_entries(versions, file, entries, list);
-            Ok(Built { entries, rows })
-        }
+    let rows = labelled::check(versions, file)?;
+    let entries = groups(rows);
+    if list.len() < entries {
+        return Err(Refused(Refusal::Small, 0));
     }
+    write_entries(versions, file, entries, list);
+    Ok(Built { entries, rows })
 }
 
 // How many rows the file has, where the list is its index, entry for entry: 14, faults, 11.
-pub fn rows_indexed(versions: Versions, file: &[u8], list: &[u32]) -> Result<usize, Refused>
-    ensures { told result ≡ and_then (check_index versions file.now list.now) (λ _. check_labelled versions file.now) }
+pub fn rows_indexed<E: IndexList>(
+    versions: Versions,
+    file: &[u8],
+    list: E,
+) -> Result<usize, Refused>
+    ensures { told result ≡ and_then (check_index versions file.now (E.entries list)) (λ _. check_labelled versions file.now) }
 {
-    match labelled::check(versions, file) {
-        Err(Refused(why, place)) => Err(Refused(why, place)),
-        Ok(rows) => {
-            if list.len() != groups(rows) {
-                return Err(Refused(Refusal::BadIndex, 0));
-            }
-            if entries_agree(versions, file, list) {
-                Ok(rows)
-            } else {
-                Err(Refused(Refusal::BadIndex, 0))
-            }
-        }
+    let rows = labelled::check(versions, file)?;
+    if list.count() != groups(rows) {
+        return Err(Refused(Refusal::BadIndex, 0));
     }
+    if entries_agree(versions, file, list) {
+        return Ok(rows);
+    }
+    Err(Refused(Refusal::BadIndex, 0))
 }
 
 // Checks a list against the file: it must be the file's index, entry for entry.
 pub fn check_index(versions: Versions, file: &[u8], list: &[u32]) -> Result<(), Refused>
     ensures { told result ≡ check_index versions file.now list.now }
 {
-    match rows_indexed(versions, file, list) {
-        Err(Refused(why, place)) => Err(Refused(why, place)),
-        Ok(_) => Ok(()),
-    }
+    rows_indexed(versions, file, list)?;
+    Ok(())
 }

@@ -15,9 +15,10 @@ use Rattle.sfdu.specs.Row.{Row, whole}
 use Rattle.sfdu.specs.Scan.{scan}
 use Rattle.sfdu.specs.Check.{rows_of_file}
 use Rattle.sfdu.specs.Find.{find_row}
-use Rattle.sfdu.specs.Search.{nothing_seen, see_all, MarksInside}
+use Rattle.sfdu.specs.Search.{MarkedBy, nothing_seen, see_all, MarksInside}
 use Rattle.sfdu.specs.Private.{Searched}
 use Rattle.sfdu.specs.declared.Seen.{Seen}
+use Rattle.sfdu.proofs.Seeing.{marked_later}
 
 -- which versions of the label are allowed
 module _ (versions : Versions) where
@@ -36,8 +37,8 @@ module _ (versions : Versions) where
   whole_file f k r h searched =
       (searched.sees ∙ ap (mapped (see_all k nothing_seen)) (sym (not_too_big f h)), inside r searched.few)
     where
-      inside : (o : Outcome Seen) → ((s : Seen) → o ≡ answer s → (s.rows ≤ 0 + length f) × (s.mark.label ≤ 0 + length f)) → MarksInside o
-      inside (answer s) few = omega (arith, (few s refl).1)
+      inside : (o : Outcome Seen) → ((s : Seen) → o ≡ answer s → (s.rows ≤ 0 + length f) × MarkedBy (0 + length f) s.mark) → MarksInside o
+      inside (answer s) few = marked_later s.mark (0 + length f) largest_file (omega arith) (few s refl).1
       inside (refuse n p) few = tt
 
   -- a file whose rows are known: reading row k is taking the k-th of them

@@ -8,18 +8,18 @@ use mathlib.Core.Bool.{Bool, true, false}
 use mathlib.Core.List.{List, [], ◌∷◌, ◌++◌}
 use lib.ListN.{length, take, drop, length-drop, drop_of_length-le}
 use lib.Seq.{drop-drop, length-take-le}
+use lib.Dec.{eqb}
 use Rattle.answer.specs.Outcome.{Outcome, answer, refuse, and_then, mapped}
 use Rattle.answer.proofs.Outcomes.{answer_injective, answer_is_no_refusal, refused_first, mapped_answer}
 use Rattle.label.specs.declared.Versions.{Versions}
 use Rattle.label.specs.declared.Label.{Label}
 use Rattle.sfdu.specs.Row.{Row}
 use Rattle.sfdu.specs.Scan.{Inside, object, rows_of, level, objects}
-use Rattle.sfdu.specs.Search.{see_row, see_all}
+use Rattle.sfdu.specs.Search.{MarkedBy, see_row, see_all}
 use Rattle.sfdu.specs.Private.{ObjectAt, Searched}
-use Rattle.sfdu.specs.declared.Mark.{Mark}
 use Rattle.sfdu.specs.declared.Seen.{Seen}
 use Rattle.sfdu.proofs.Steps.{at_the_end, bad_object, one_object}
-use Rattle.sfdu.proofs.Seeing.{row_is_seen, row_is_passed, seen_in_turn}
+use Rattle.sfdu.proofs.Seeing.{marked_later, marked_either, seen_in_turn}
 
 -- which versions of the label are allowed
 module _ (versions : Versions) where
@@ -60,7 +60,7 @@ module _ (versions : Versions) where
     pub record Sofar (at : ℕ) (seen : Seen) : Type 0 where
       pub within : at ≤ length part
       pub few : seen.rows ≤ base + at
-      pub low : seen.mark.label ≤ base + at
+      pub low : MarkedBy (base + at) seen.mark
       pub found : List Row
       pub scanned : all ≡ siblings (base + at) found (drop at part)
       pub sees : seen ≡ see_all k earlier found
@@ -74,26 +74,26 @@ module _ (versions : Versions) where
 
     -- a search that came to the end
     end_met : (found : List Row) (seen : Seen) → all ≡ answer found → seen ≡ see_all k earlier found
-        → (seen.rows ≤ base + length part) × (seen.mark.label ≤ base + length part)
+        → (seen.rows ≤ base + length part) × MarkedBy (base + length part) seen.mark
         → Searched versions part base left outermost k earlier (answer seen)
     end_met found seen e is few = record {
       sees = ap answer is ∙ sym (ap (mapped (see_all k earlier)) e);
-      few = λ s z. subst (λ (t : Seen). (t.rows ≤ base + length part) × (t.mark.label ≤ base + length part)) (answer_injective z) few;
+      few = λ s z. subst (λ (t : Seen). (t.rows ≤ base + length part) × MarkedBy (base + length part) t.mark) (answer_injective z) few;
     }
 
-    pub starts : 0 < left → earlier.rows ≤ base → earlier.mark.label ≤ base → Sofar 0 earlier
+    pub starts : 0 < left → earlier.rows ≤ base → MarkedBy base earlier.mark → Sofar 0 earlier
     starts h few low = record {
       within = omega arith;
       few = omega arith;
-      low = omega arith;
+      low = marked_later earlier.mark base (base + 0) (omega arith) low;
       found = [];
       scanned = objects_are_a_level left (9 - left) outermost base part h ∙ ap (λ (p : ℕ). siblings p [] part) (omega arith);
       sees = refl;
     }
 
-    pub no_bytes : length part ≡ 0 → earlier.rows ≤ base → earlier.mark.label ≤ base → Searched versions part base left outermost k earlier (answer earlier)
+    pub no_bytes : length part ≡ 0 → earlier.rows ≤ base → MarkedBy base earlier.mark → Searched versions part base left outermost k earlier (answer earlier)
     no_bytes h few low =
-        end_met [] earlier (ap (objects versions left (9 - left) outermost base) (empty part h) ∙ nothing_to_scan left (9 - left) outermost base) refl (omega arith, omega arith)
+        end_met [] earlier (ap (objects versions left (9 - left) outermost base) (empty part h) ∙ nothing_to_scan left (9 - left) outermost base) refl (omega arith, marked_later earlier.mark base (base + length part) (omega arith) low)
       where
         empty : (s : List ℕ) → length s ≡ 0 → s ≡ []
         empty [] e = refl
@@ -109,7 +109,7 @@ module _ (versions : Versions) where
           end_met sofar.found seen
           (sofar.scanned ∙ ap (siblings (base + at) sofar.found) (drop_of_length-le part h)
           ∙ at_the_end versions (inner (left - 1) (9 - left)) (9 - left) outermost (base + at) sofar.found 0)
-          sofar.sees (omega (arith, sofar.few, sofar.within), omega (arith, sofar.low, sofar.within))
+          sofar.sees (omega (arith, sofar.few, sofar.within), marked_later seen.mark (base + at) (base + length part) (omega (arith, sofar.within)) sofar.low)
 
       module _ (more : at < length part) where
         left_over : 0 < length (drop at part)
@@ -165,41 +165,28 @@ module _ (versions : Versions) where
               end_is = omega (arith, o.ends)
 
         -- a leaf is one row more
-        leaf_more : (end : ℕ) (o : ObjectAt versions part at false end) (r : Seen) → r.mark.label ≤ base + end
-            → r ≡ see_row k seen (record { label = base + at; size = o.label.length; depth = 9 - left; outermost = outermost (base + at) }) → Sofar end r
+        pub leaf_more : (end : ℕ) (o : ObjectAt versions part at false end) (r : Row)
+            → r ≡ record { label = base + at; size = end - at - 20; depth = 9 - left; outermost = outermost (base + at) } → Sofar end (see_row k seen r)
         unfolding l
-        leaf_more end o r low is = record {
+        leaf_more end o r is = record {
           within = o.inside;
-          few = omega (arith, sofar.few, o.ends, ap (λ (s : Seen). s.rows) is);
-          low = low;
+          few = omega (arith, sofar.few, o.ends);
+          low =
+              marked_either (eqb seen.rows k) r seen.mark (base + end) (omega (arith, ap (λ (x : Row). x.label) is, o.ends))
+              (marked_later seen.mark (base + at) (base + end) (omega (arith, o.ends)) sofar.low);
           found = sofar.found ++ (row ∷ []);
           scanned = sofar.scanned ∙ goes_on false end o sofar.found;
-          sees = is ∙ ap (λ (s : Seen). see_row k s row) sofar.sees ∙ sym (seen_in_turn k sofar.found (row ∷ []) earlier);
+          sees =
+              ap (see_row k seen) (is ∙ ap (λ (n : ℕ). record { label = base + at; size = n; depth = 9 - left; outermost = outermost (base + at) }) length_is)
+              ∙ ap (λ (s : Seen). see_row k s row) sofar.sees
+              ∙ sym (seen_in_turn k sofar.found (row ∷ []) earlier);
         }
           where
             row : Row
             row = record { label = base + at; size = o.label.length; depth = 9 - left; outermost = outermost (base + at) }
 
-        -- the one that is looked for, or another
-        pub leaf_found : (end size top : ℕ) (mark : Mark) → ObjectAt versions part at false end → size ≡ end - at - 20 → top ≡ outermost (base + at)
-            → seen.rows ≡ k → mark ≡ record { label = base + at; size = size; depth = 9 - left; outermost = top }
-            → Sofar end (record { rows = seen.rows + 1; mark = mark })
-        leaf_found end size top mark o size_is top_is h is =
-            leaf_more end o (record { rows = seen.rows + 1; mark = mark })
-            (omega (arith, ap (λ (m : Mark). m.label) is, o.ends))
-            (ap (λ (m : Mark). record { rows = seen.rows + 1; mark = m })
-            (is ∙ ap₂ (λ (n t : ℕ). record { label = base + at; size = n; depth = 9 - left; outermost = t }) length_is top_is)
-            ∙ row_is_seen k seen _ h)
-          where
-            length_is : size ≡ o.label.length
+            length_is : end - at - 20 ≡ o.label.length
             length_is = omega (arith, o.ends)
-
-        pub leaf_passed : (end : ℕ) (mark : Mark) → ObjectAt versions part at false end → (seen.rows ≡ k → ⊥) → mark ≡ seen.mark
-            → Sofar end (record { rows = seen.rows + 1; mark = mark })
-        leaf_passed end mark o h is =
-            leaf_more end o (record { rows = seen.rows + 1; mark = mark })
-            (omega (arith, ap (λ (m : Mark). m.label) is, sofar.low, o.ends))
-            (ap (λ (m : Mark). record { rows = seen.rows + 1; mark = m }) is ∙ row_is_passed k seen _ h)
 
         -- an opened object is the rows inside it more, or what is wrong there
         module _ (end top : ℕ) (o : ObjectAt versions part at true end) (top_is : top ≡ outermost (base + at)) (some : 0 < left) (most : left ≤ 8) where
@@ -222,11 +209,11 @@ module _ (versions : Versions) where
               place_is : base + at + 20 ≡ base + (at + 20)
               place_is = omega arith
 
-          few_inside : (s : Seen) → Inner (answer s) → (s.rows ≤ base + end) × (s.mark.label ≤ base + end)
+          few_inside : (s : Seen) → Inner (answer s) → (s.rows ≤ base + end) × MarkedBy (base + end) s.mark
           few_inside s inner_seen =
               let (few, low) = inner_seen.few s refl in
               let size = value_size true end o in
-              (omega (arith, few, size, o.ends), omega (arith, low, size, o.ends))
+              (omega (arith, few, size, o.ends), marked_later s.mark _ (base + end) (omega (arith, size, o.ends)) low)
 
           pub group_passed : (s : Seen) → Inner (answer s) → Sofar end s
           group_passed s inner_seen =

@@ -4,7 +4,7 @@ use Prim.Native.Nat.{ℕ, suc, ◌+◌, ◌-◌, ◌≤◌, ◌<◌}
 use native.Mathlib.Omega.{arith}
 use mathlib.Core.Path.{◌≡◌, ◌∙◌, sym, ap, ap₂}
 use mathlib.Core.List.{List}
-use mathlib.Core.Option.{Option, none, some}
+use Rattle.std.specs.Prelude.{Option, None, Some}
 use lib.ListN.{length, take, drop, length-drop, drop_of_length-le}
 use lib.Seq.{drop-drop}
 use borrow.Author.Tests.{le-leb, lt-leb}
@@ -54,13 +54,13 @@ module _ (versions : Versions) where
       pub meets_a_fault : (n p : ℕ) → step_at versions (drop at f) ≡ refuse n p → walk_from versions f from leaves ≡ refuse n at
       meets_a_fault n p e = way.same ∙ walk_faulty versions at (drop at f) left_over k n p e
 
-      pub steps_in : step_at versions (drop at f) ≡ answer none → OnTheWay f from leaves (at + 20) k
+      pub steps_in : step_at versions (drop at f) ≡ answer None → OnTheWay f from leaves (at + 20) k
       steps_in e = record {
         within = omega (arith, length-drop at f, opened_has_20_bytes versions (drop at f) e);
         same = way.same ∙ walk_opened versions at (drop at f) left_over k e ∙ ap (walk versions (at + 20) k 0) (drop-drop 20 at f);
       }
 
-      module _ (l : Label) (e : step_at versions (drop at f) ≡ answer (some l)) where
+      module _ (l : Label) (e : step_at versions (drop at f) ≡ answer (Some l)) where
         pub leaf_inside : at + 20 + l.length ≤ length f
         leaf_inside = let h = step_is_a_leaf versions (drop at f) l e in omega (arith, length-drop at f, h.long, h.fits)
 

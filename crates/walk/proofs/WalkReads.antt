@@ -8,7 +8,7 @@ use native.Mathlib.Omega.{arith}
 use mathlib.Core.Path.{◌≡◌, refl, ◌∙◌, sym, ap, ap₂, subst}
 use mathlib.Core.Bool.{Bool, true, false}
 use mathlib.Core.List.{List, [], ◌∷◌, ◌++◌, append-nil}
-use mathlib.Core.Option.{Option, none, some}
+use Rattle.std.specs.Prelude.{Option, None, Some}
 use lib.ListN.{length, drop, length-drop}
 use lib.Seq.{drop-drop}
 use Rattle.answer.specs.Outcome.{Outcome, answer, refuse, and_then, mapped}
@@ -44,7 +44,7 @@ nth_or_append [] more k rest = refl
 nth_or_append (r ∷ rs) more zero rest = refl
 nth_or_append (r ∷ rs) more (suc k) rest = nth_or_append rs more k rest
 
--- past the last row there is none
+-- past the last row there is None
 pub nth_or_none : (rs : List Row) (k : ℕ) → nth_or rs k (λ j. refuse 6 0) ≡ mapped as_walked (nth rs k)
 nth_or_none [] k = refl
 nth_or_none (r ∷ rs) zero = refl
@@ -61,10 +61,10 @@ resume_step : (o : Outcome (Option Label)) (at i j : ℕ) (go : ℕ → ℕ → 
     → ((l : Label) → on_step at j o go ≡ on (record { place = at; label = l }))
     → on_step at (i + j) o go ≡ and_then (on_step at i o go) on
 resume_step (refuse n p) at i j go on further here = refl
-resume_step (answer none) at i j go on further here = further i 19
-resume_step (answer (some l)) at zero j go on further here = ap (λ (k : ℕ). on_step at k (answer (some l)) go) (zero-add j) ∙ here l
-resume_step (answer (some l)) at (suc i) j go on further here =
-    ap (λ (k : ℕ). on_step at k (answer (some l)) go) (suc-add i j) ∙ further i (19 + l.length)
+resume_step (answer None) at i j go on further here = further i 19
+resume_step (answer (Some l)) at zero j go on further here = ap (λ (k : ℕ). on_step at k (answer (Some l)) go) (zero-add j) ∙ here l
+resume_step (answer (Some l)) at (suc i) j go on further here =
+    ap (λ (k : ℕ). on_step at k (answer (Some l)) go) (suc-add i j) ∙ further i (19 + l.length)
 
 tail_of_drop : (f : List ℕ) (at b : ℕ) (bs : List ℕ) → b ∷ bs ≡ drop at f → bs ≡ drop (suc at) f
 tail_of_drop f at b bs e = ap (drop 1) e ∙ drop-drop 1 at f ∙ ap (λ (k : ℕ). drop k f) (add-one at)
@@ -84,7 +84,7 @@ module _ (versions : Versions) where
     some_bytes : (opened : Bool) → IsLabel versions label opened (length value) → 0 < length (label ++ (value ++ t))
     some_bytes opened is = omega (arith, front_length versions label value t opened is)
 
-    takes_the_leaf : (is : IsLabel versions label false (length value)) → step_at versions (label ++ (value ++ t)) ≡ answer (some is.label)
+    takes_the_leaf : (is : IsLabel versions label false (length value)) → step_at versions (label ++ (value ++ t)) ≡ answer (Some is.label)
     takes_the_leaf is =
         let object_is = taken versions (label ++ (value ++ t)) is.label (front_is_an_object versions label value t false is) in
         step_leaf versions (label ++ (value ++ t)) is.label object_is.reads is.class object_is.fits
@@ -172,16 +172,16 @@ module _ (versions : Versions) where
   -- ---- what stands where a walk ends
 
   found_step : (f : List ℕ) (o : Outcome (Option Label)) (at k : ℕ) (go : ℕ → ℕ → Outcome Leaf) (found : Leaf) → step_at versions (drop at f) ≡ o
-      → on_step at k o go ≡ answer found → ((m n : ℕ) → go m n ≡ answer found → step_at versions (drop found.place f) ≡ answer (some found.label))
-      → step_at versions (drop found.place f) ≡ answer (some found.label)
+      → on_step at k o go ≡ answer found → ((m n : ℕ) → go m n ≡ answer found → step_at versions (drop found.place f) ≡ answer (Some found.label))
+      → step_at versions (drop found.place f) ≡ answer (Some found.label)
   found_step f (refuse n p) at k go found here e further = absurd (answer_is_no_refusal (sym e))
-  found_step f (answer none) at k go found here e further = further k 19 e
-  found_step f (answer (some l)) at zero go found here e further =
-      subst (λ (x : Leaf). step_at versions (drop x.place f) ≡ answer (some x.label)) (answer_injective e) here
-  found_step f (answer (some l)) at (suc k) go found here e further = further k (19 + l.length) e
+  found_step f (answer None) at k go found here e further = further k 19 e
+  found_step f (answer (Some l)) at zero go found here e further =
+      subst (λ (x : Leaf). step_at versions (drop x.place f) ≡ answer (Some x.label)) (answer_injective e) here
+  found_step f (answer (Some l)) at (suc k) go found here e further = further k (19 + l.length) e
 
   found_passed : (f s : List ℕ) (at k passed : ℕ) (found : Leaf) → s ≡ drop at f → walk versions at k passed s ≡ answer found
-      → step_at versions (drop found.place f) ≡ answer (some found.label)
+      → step_at versions (drop found.place f) ≡ answer (Some found.label)
   unfolding walk
   found_passed f [] at k passed found e w = absurd (answer_is_no_refusal (sym w))
   found_passed f (b ∷ bs) at k (suc passed) found e w = found_passed f bs (suc at) k passed found (tail_of_drop f at b bs e) w

@@ -6,7 +6,7 @@ use native.Mathlib.Omega.{arith}
 use mathlib.Core.Path.{◌≡◌, refl, ◌∙◌, sym, ap, ap₂, subst}
 use mathlib.Core.Bool.{Bool, true, false}
 use mathlib.Core.List.{List, [], ◌∷◌}
-use mathlib.Core.Option.{none, some}
+use Rattle.std.specs.Prelude.{None, Some}
 use lib.ListN.{length, drop}
 use lib.Dec.{leb}
 use borrow.Author.Tests.{le-leb, lt-leb, leb-true}
@@ -20,12 +20,12 @@ use Rattle.label.proofs.Reading.{read_has_20_bytes}
 use Rattle.walk.specs.Walk.{take_label, step_at, walk}
 use Rattle.sfdu.proofs.Steps.{one_more}
 
-took_leaf : (t : Bool) (m : Label) (after : ℕ) (l : Label) → take_label t m after ≡ answer (some l) → (t ≡ false) × (m ≡ l) × (m.length ≤ after)
+took_leaf : (t : Bool) (m : Label) (after : ℕ) (l : Label) → take_label t m after ≡ answer (Some l) → (t ≡ false) × (m ≡ l) × (m.length ≤ after)
 took_leaf true m after l e = absurd (let z : ◌≡◌ {A = ℕ} 0 1 = cc (answer_injective e) in omega arith)
 took_leaf false m after l e =
-    let (h, is) = passed 0 (leb m.length after) 4 (answer (some m)) (some l) e in (refl, some_injective (answer_injective is), leb-true _ _ h)
+    let (h, is) = passed 0 (leb m.length after) 4 (answer (Some m)) (Some l) e in (refl, some_injective (answer_injective is), leb-true _ _ h)
   where
-    some_injective : {a b : Label} → some a ≡ some b → a ≡ b
+    some_injective : {a b : Label} → Some a ≡ Some b → a ≡ b
     some_injective q = cc
 
 -- which versions of the label are allowed
@@ -37,7 +37,7 @@ module _ (versions : Versions) where
   step_not_read s n p e = rw e
 
   module _ (s : List ℕ) (l : Label) (e : read_label versions s ≡ answer l) where
-    pub step_opened : is_opened l.class ≡ true → step_at versions s ≡ answer none
+    pub step_opened : is_opened l.class ≡ true → step_at versions s ≡ answer None
     unfolding step_at
     step_opened o = rw e (ap (λ (t : Bool). take_label t l (length s - 20)) o)
 
@@ -46,7 +46,7 @@ module _ (versions : Versions) where
       unfolding step_at
       step_too_long h = rw e (ap (λ (t : Bool). take_label t l (length s - 20)) o ∙ rw (lt-leb l.length (length s - 20) h))
 
-      pub step_leaf : l.length ≤ length s - 20 → step_at versions s ≡ answer (some l)
+      pub step_leaf : l.length ≤ length s - 20 → step_at versions s ≡ answer (Some l)
       unfolding step_at
       step_leaf h = rw e (ap (λ (t : Bool). take_label t l (length s - 20)) o ∙ rw (le-leb l.length (length s - 20) h))
 
@@ -57,10 +57,10 @@ module _ (versions : Versions) where
     pub fits : l.length ≤ length s - 20
     pub closed : is_opened l.class ≡ false
 
-  pub step_is_a_leaf : (s : List ℕ) (l : Label) → step_at versions s ≡ answer (some l) → LeafStep s l
+  pub step_is_a_leaf : (s : List ℕ) (l : Label) → step_at versions s ≡ answer (Some l) → LeafStep s l
   unfolding step_at
   step_is_a_leaf s l e =
-      let (m, reads, took) = first_answered (read_label versions s) (λ k. take_label (is_opened k.class) k (length s - 20)) (some l) e in
+      let (m, reads, took) = first_answered (read_label versions s) (λ k. take_label (is_opened k.class) k (length s - 20)) (Some l) e in
       let (closed, same, fits) = took_leaf (is_opened m.class) m (length s - 20) l took in
       record {
         reads = reads ∙ ap answer same;
@@ -69,10 +69,10 @@ module _ (versions : Versions) where
         closed = subst (λ (k : Label). is_opened k.class ≡ false) same closed;
       }
 
-  pub opened_has_20_bytes : (s : List ℕ) → step_at versions s ≡ answer none → 20 ≤ length s
+  pub opened_has_20_bytes : (s : List ℕ) → step_at versions s ≡ answer None → 20 ≤ length s
   unfolding step_at
   opened_has_20_bytes s e =
-      let (m, reads, took) = first_answered (read_label versions s) (λ k. take_label (is_opened k.class) k (length s - 20)) none e in
+      let (m, reads, took) = first_answered (read_label versions s) (λ k. take_label (is_opened k.class) k (length s - 20)) None e in
       read_has_20_bytes versions s m reads
 
   -- ---- the walk
@@ -95,19 +95,19 @@ module _ (versions : Versions) where
     walk_faulty (b ∷ bs) h k n p e = rw e
 
     -- over an opened label by 20 bytes
-    pub walk_opened : (s : List ℕ) → 0 < length s → (k : ℕ) → step_at versions s ≡ answer none → walk versions at k 0 s ≡ walk versions (at + 20) k 0 (drop 20 s)
+    pub walk_opened : (s : List ℕ) → 0 < length s → (k : ℕ) → step_at versions s ≡ answer None → walk versions at k 0 s ≡ walk versions (at + 20) k 0 (drop 20 s)
     unfolding walk
     walk_opened [] h k e = absurd (not-suc-le-zero h)
     walk_opened (b ∷ bs) h k e = rw e (walk_passed (suc at) k 19 bs ∙ ap (λ (p : ℕ). walk versions p k 0 (drop 19 bs)) {x = suc at + 19} {y = at + 20} (omega arith))
 
     -- no leaf to pass: this is the one
-    pub walk_arrives : (s : List ℕ) → 0 < length s → (l : Label) → step_at versions s ≡ answer (some l) → walk versions at 0 0 s ≡ answer (record { place = at; label = l })
+    pub walk_arrives : (s : List ℕ) → 0 < length s → (l : Label) → step_at versions s ≡ answer (Some l) → walk versions at 0 0 s ≡ answer (record { place = at; label = l })
     unfolding walk
     walk_arrives [] h l e = absurd (not-suc-le-zero h)
     walk_arrives (b ∷ bs) h l e = rw e
 
     -- over a leaf by 20 plus its length
-    pub walk_leaf : (s : List ℕ) → 0 < length s → (k : ℕ) (l : Label) → step_at versions s ≡ answer (some l)
+    pub walk_leaf : (s : List ℕ) → 0 < length s → (k : ℕ) (l : Label) → step_at versions s ≡ answer (Some l)
         → walk versions at (suc k) 0 s ≡ walk versions (at + (20 + l.length)) k 0 (drop (20 + l.length) s)
     unfolding walk
     walk_leaf [] h k l e = absurd (not-suc-le-zero h)

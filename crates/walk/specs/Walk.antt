@@ -2,10 +2,8 @@
 -- class by 20 bytes, whatever its length field says, and over a leaf by 20 plus its length; a leaf must end inside the
 -- file; 1 to 4 as met, and 6 where the file ends). It is defined for any bytes, from any place. It is told which versions of the
 -- label are allowed (document 02, item 11), and reads labels as the scan does.
-use Rattle.std.specs.Prelude.{ℕ, zero, suc, ◌+◌, ◌-◌, Bool, true, false, List, [], ◌∷◌, length, drop, leb, None}
-use Rattle.std.proofs.Math.Option.{Option, none, some}
+use Rattle.std.specs.Prelude.{ℕ, zero, suc, ◌+◌, ◌-◌, Bool, true, false, List, [], ◌∷◌, length, drop, leb, Option, Some, None}
 use Rattle.answer.specs.Outcome.{Outcome, answer, refuse, need, and_then}
-use Rattle.answer.specs.Refusal.{number_of}
 use Rattle.answer.specs.Size.{of_file}
 use Rattle.answer.specs.declared.Shown.{Shown}
 use Rattle.label.specs.declared.Label.{Label}
@@ -27,15 +25,15 @@ row_at_leaf leaf =
 -- how a walk takes a label with so many bytes after it: nothing where its class is opened, else the leaf, whose value
 -- must end inside the file
 abbrev pub take_label : Bool → Label → ℕ → Outcome (Option Label)
-take_label true l after = answer none
-take_label false l after = need (leb l.length after) 4 (answer (some l))
+take_label true l after = answer None
+take_label false l after = need (leb l.length after) 4 (answer (Some l))
 
 -- what a step at `at` means with k leaves still to pass; `go` walks on with so many leaves and so many bytes to pass
 abbrev pub on_step : ℕ → ℕ → Outcome (Option Label) → (ℕ → ℕ → Outcome Leaf) → Outcome Leaf
 on_step at k (refuse n p) go = refuse n at
-on_step at k (answer none) go = go k 19
-on_step at zero (answer (some l)) go = answer (record { place = at; label = l })
-on_step at (suc k) (answer (some l)) go = go k (19 + l.length)
+on_step at k (answer None) go = go k 19
+on_step at zero (answer (Some l)) go = answer (record { place = at; label = l })
+on_step at (suc k) (answer (Some l)) go = go k (19 + l.length)
 
 -- which versions of the label are allowed
 module _ (versions : Versions) where

@@ -32,13 +32,13 @@ pub returns-then-digit-lt48 : goal.returns-then-digit-lt48
 returns-then-digit-lt48 c =
     let l = c.loop-i in
     let a = c.args in
-    sym (ap (after a.spaces) (l.invariant.same ∙ low_byte a.b.now l.i c.wide-digit.result (omega arith) c.wide-digit.ensures.0 l.n (omega arith)))
+    sym (ap (after a.spaces) (l.invariant.same ∙ low_byte a.b.now l.i c.from-digit.result (omega arith) c.from-digit.ensures l.n (omega arith)))
 
 pub returns-then-digit-gt57 : goal.returns-then-digit-gt57
 returns-then-digit-gt57 c =
     let l = c.loop-i in
     let a = c.args in
-    sym (ap (after a.spaces) (l.invariant.same ∙ high_byte a.b.now l.i c.wide-digit.result (omega arith) c.wide-digit.ensures.0 l.n (omega arith)))
+    sym (ap (after a.spaces) (l.invariant.same ∙ high_byte a.b.now l.i c.from-digit.result (omega arith) c.from-digit.ensures l.n (omega arith)))
 
 pub overflow_mul-n : goal.overflow_mul-n
 overflow_mul-n c =
@@ -58,8 +58,8 @@ loop-i-preserved c =
     let b = c.args.b.now in
     record {
       within = omega arith;
-      small = one_digit_more l.n (c.wide-digit.result - 48) l.i l.invariant.small (omega arith);
-      same = l.invariant.same ∙ next_digit b l.i c.wide-digit.result (omega arith) c.wide-digit.ensures.0 l.n (omega arith) (omega arith);
+      small = one_digit_more l.n (c.from-digit.result - 48) l.i l.invariant.small (omega arith);
+      same = l.invariant.same ∙ next_digit b l.i c.from-digit.result (omega arith) c.from-digit.ensures l.n (omega arith) (omega arith);
     }
 
 pub returns : goal.returns

@@ -17,10 +17,10 @@ with_spaces b k e =
     ap (λ (xs : List ℕ). after k (number_in xs)) (sym (drop-drop k 12 b))
     ∙ ap (λ (j : ℕ). after j (number_in (drop j (drop 12 b)))) e
 
-pub returns-in-Ok : goal.returns-in-Ok
-returns-in-Ok c =
+pub returns-in-Is : goal.returns-in-Is
+returns-in-Is c =
     sym (digits_alone (drop 12 c.args.b.now) _
-    (sym c.digits_after.ensures ∙ ap field_read c.in-Ok.is))
+    (sym c.digits_after.ensures ∙ ap field_read c.in-Is.is))
 
 pub returns-in-Bad : goal.returns-in-Bad
 returns-in-Bad c =

@@ -10,11 +10,11 @@ use Rattle.label.proofs.digits_label.Goals as goal
 pub returns-then-not-head_is_good : goal.returns-then-not-head_is_good
 returns-then-not-head_is_good c = sym (bad_head One c.args.b.now (sym c.head_is_good.ensures ∙ c.if-not-head_is_good.true))
 
-pub returns-in-Ok : goal.returns-in-Ok
-returns-in-Ok c =
+pub returns-in-Is : goal.returns-in-Is
+returns-in-Is c =
     let b = c.args.b.now in
     let head = sym c.head_is_good.ensures ∙ c.if-not-head_is_good.false in
-    let field = sym c.digits_field.ensures ∙ ap field_read c.in-Ok.is in
+    let field = sym c.digits_field.ensures ∙ ap field_read c.in-Is.is in
     ap answer c.label_with.ensures ∙ sym (good_head One b head ∙ ap (with_length One b) field)
 
 pub returns-in-Bad : goal.returns-in-Bad

@@ -25,12 +25,6 @@ overflow_cast-list c =
 pub bounds-list-i : goal.bounds-list-i
 bounds-list-i c = omega (arith, long (goal.at.bounds-list-i c).At-loop-i, c.requires.2, c.loop-i-test.true)
 
-pub overflow_add-i : goal.overflow_add-i
-overflow_add-i c = omega (arith, c.requires.2)
-
-pub loop-i-smaller : goal.loop-i-smaller
-loop-i-smaller c = omega (arith, long (goal.at.loop-i-smaller c).At-loop-i, c.requires.2, c.loop-i-test.true)
-
 pub loop-i-preserved : goal.loop-i-preserved
 loop-i-preserved c =
     let v = c.args.versions in

@@ -6,7 +6,7 @@ use Rattle.walk.proofs.WalkLoop.{OnTheWay}
 use Rattle.walk.proofs.walk_from.Given as goal
 
 abbrev pub invariant-loop-at : goal.invariant-loop-at
-invariant-loop-at l = OnTheWay l.versions l.file l.from l.leaves l.at l.k
+invariant-loop-at l = OnTheWay l.versions l.file l.from l.leaves l.at l.left
 
 abbrev pub decreases-loop-at : goal.decreases-loop-at
 decreases-loop-at l = length l.file - l.at
