@@ -17,7 +17,7 @@ pub const KIND: u32 = 2;
 
 pub const COUNT: usize = 4;
 
-const ENTRIES: usize = house_record::FRONT + COUNT;
+pub const ENTRIES: usize = house_record::FRONT + COUNT;
 
 // What a record of kind 2 tells: how many rows the file has, and how many entries its index has.
 #[derive(Clone, Copy)]
