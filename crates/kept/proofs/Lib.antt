@@ -1,4 +1,3 @@
-pub mod Putting
 pub mod Entries
 pub mod Writing
 pub mod RoundTrip

@@ -4,59 +4,31 @@
 #![tactic(auto)]
 
 ghost use Rattle.answer.specs.Told.{told};
-ghost use Rattle.std.specs.Prelude.{◌≡◌, ◌++◌, ◌+◌, ◌*◌, ◌≤◌, length};
+ghost use Rattle.std.specs.Prelude.{◌≡◌, ◌*◌, length};
 ghost use Rattle.answer.specs.Filled.{Writes};
-ghost use Rattle.little.specs.LittleEndian.{le};
 ghost use Rattle.house_record.specs.Record.{entry_bytes};
 ghost use Rattle.kept.specs.Kept.{keep_index, load_kept};
-ghost use Rattle.kept.specs.Private.{put_at};
 
 use answer::{Refusal, Refused};
 
 // The kind's number.
 pub const KIND: u32 = 1;
 
-// Writes a number's lower 16 bits to the two bytes from place `at` on.
-fn put_two(number: u32, out: &mut [u8], at: usize)
-    requires { at + 2 ≤ length out.old }
-    ensures { out.new ≡ put_at out.old at (le 2 number) }
+// Writes the entries to bytes that are just so many, four each.
+#[tactic(auto, using(crate::proofs::Entries::one_entry_put))]
+fn put_entries(list: &[u32], out: &mut [u8])
+    requires { length out.old ≡ 4 * length list.now }
+    ensures { out.new ≡ entry_bytes list.now }
 {
-    out[at] = (number % 256) as u8;
-    out[at + 1] = (number / 256 % 256) as u8;
-}
-
-// Writes a number to the four bytes from place `at` on.
-fn put_four(number: u32, out: &mut [u8], at: usize)
-    requires { at + 4 ≤ length out.old }
-    ensures { out.new ≡ put_at out.old at (le 4 number) }
-{
-    put_two(number, out, at);
-    put_two(number / 65536, out, at + 2);
-}
-
-// Writes a record's length, how many bytes follow it, and its kind to the first six bytes.
-fn put_head(follows: u32, kind: u32, out: &mut [u8])
-    requires { 6 ≤ length out.old }
-    ensures { out.new ≡ put_at out.old 0 (le 4 follows ++ le 2 kind) }
-{
-    put_four(follows, out, 0);
-    put_two(kind, out, 4);
-}
-
-// Writes the entries from place `first` on, four bytes each.
-fn put_entries(list: &[u32], out: &mut [u8], first: usize)
-    requires { first + 4 * length list.now ≤ length out.old }
-    ensures { out.new ≡ put_at out.old first (entry_bytes list.now) }
-{
-    let mut i: usize = 0;
-    while i < list.len() {
-        let at = first + 4 * i;
-        put_four(list[i], out, at);
-        i += 1;
+    // By place: `chunks_exact_mut` promises nothing of what its parts end as, so its form has no proof.
+    for (i, entry) in list.iter().enumerate() {
+        let at = 4 * i;
+        out[at..at + 4].copy_from_slice(&little::bytes_of(*entry));
     }
 }
 
 // Writes the kept form of a list to the front of `out`, and answers how many bytes it is: 14, then 8.
+#[tactic(auto, unfolding(crate::specs::Kept::keep_index, house_record::specs::Record::kept_as), using(house_record::proofs::Writing::length_kept_as, house_record::proofs::Entries::length_entry_bytes))]
 pub fn keep(list: &[u32], out: &mut [u8]) -> Result<usize, Refused>
     ensures { Writes (keep_index list.now (length out.old))
         out.old (told result) out.new }
@@ -70,8 +42,9 @@ pub fn keep(list: &[u32], out: &mut [u8]) -> Result<usize, Refused>
     if out.len() < size {
         return Err(Refused(Refusal::Small, 0));
     }
-    put_head(follows as u32, KIND, out);
-    put_entries(list, out, house_record::FRONT);
+    let front: [u8; house_record::FRONT] = house_record::front(follows as u32, KIND, &[]);
+    out[..house_record::FRONT].copy_from_slice(&front);
+    put_entries(list, &mut out[house_record::FRONT..size]);
     Ok(size)
 }
 

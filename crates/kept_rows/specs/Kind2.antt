@@ -2,8 +2,7 @@
 -- answers the count and the list"; back to kind 1 without the file). 13 for bytes that are no record of kind 2, fewer than 10 among
 -- them, then 8.
 use Rattle.std.specs.Prelude.{ℕ, List, length}
-use Rattle.answer.specs.Outcome.{Outcome, answer, refuse, and_then, mapped}
-use Rattle.answer.specs.Refusal.{number_of}
+use Rattle.answer.specs.Outcome.{Outcome, and_then, mapped}
 use Rattle.answer.specs.Window.{bytes_at}
 use Rattle.little.specs.LittleEndian.{le, le_number}
 use Rattle.house_record.specs.Record.{kept_as, in_room, read_as, load_as}
@@ -41,4 +40,3 @@ loaded_of k = record { rows = k.rows; entries = length k.list }
 -- the same list as a record of kind 1, into `room` bytes: 13, then 8
 unfoldable pub to_kind1 : List ℕ → ℕ → Outcome (List ℕ)
 to_kind1 s room = and_then (read_kept2 s) (λ k. in_room room (kept_form k.list))
-

@@ -5,10 +5,9 @@
 #![tactic(auto)]
 
 ghost use Rattle.answer.specs.Told.{told};
-ghost use Rattle.std.specs.Prelude.{◌≡◌, ◌++◌, length};
+ghost use Rattle.std.specs.Prelude.{◌≡◌, length};
 ghost use Rattle.answer.specs.Outcome.{mapped};
 ghost use Rattle.answer.specs.Filled.{Writes, filled};
-ghost use Rattle.little.specs.LittleEndian.{le};
 ghost use Rattle.kept_rows.specs.Kind2.{list_of, loaded_of, load_kept2, to_kind1};
 
 use answer::{Refusal, Refused};
@@ -18,7 +17,7 @@ pub const KIND: u32 = 2;
 
 pub const COUNT: usize = 4;
 
-const ENTRIES: usize = 10;
+pub const ENTRIES: usize = house_record::FRONT + COUNT;
 
 // What a record of kind 2 tells: how many rows the file has, and how many entries its index has.
 #[derive(Clone, Copy)]
@@ -29,30 +28,20 @@ pub struct Loaded {
 
 // Reads the list that a record of kind 2 keeps to the front of `list`, and answers the row count and how
 // many entries there are: 13, then 8.
+#[tactic(auto, unfolding(house_record::specs::Record::load_as, house_record::specs::Record::read_as))]
 pub fn load(kept: &[u8], list: &mut [u32]) -> Result<Loaded, Refused>
     ensures answers { told result ≡ mapped loaded_of (load_kept2 kept.now (length list.old)) }
     ensures leaves { list.new ≡ filled (mapped list_of (load_kept2 kept.now (length list.old)))
         list.old }
 {
-    match house_record::load(KIND, COUNT, kept, list) {
-        Ok(entries) => {
-            let rows = house_record::number_at(kept, house_record::FRONT) as usize;
-            Ok(Loaded { rows, entries })
-        }
-        Err(Refused(why, place)) => Err(Refused(why, place)),
-    }
-}
-
-// The length, how many bytes follow it, and the kind of a record of kind 1.
-fn head(follows: u32) -> [u8; 6]
-    ensures { result ≡ le 4 follows ++ le 2 1 }
-{
-    let size = little::bytes_of(follows);
-    [size[0], size[1], size[2], size[3], 1, 0]
+    let entries = house_record::load(KIND, COUNT, kept, list)?;
+    let rows = house_record::number_at(kept, house_record::FRONT) as usize;
+    Ok(Loaded { rows, entries })
 }
 
 // Writes the list that a record of kind 2 keeps as a record of kind 1 to the front of `out`, and answers
 // how many bytes it is: 13, then 8.
+#[tactic(auto, using(crate::proofs::Kind2::no_way_back))]
 pub fn to_kind_1(kept: &[u8], out: &mut [u8]) -> Result<usize, Refused>
     ensures { Writes (to_kind1 kept.now (length out.old))
         out.old (told result) out.new }
@@ -61,6 +50,6 @@ pub fn to_kind_1(kept: &[u8], out: &mut [u8]) -> Result<usize, Refused>
         return Err(Refused(Refusal::BadKept, 0));
     }
     let follows = house_record::number_at(kept, 0) - 4;
-    let front = head(follows);
+    let front: [u8; house_record::FRONT] = house_record::front(follows, kept::KIND, &[]);
     house_record::put(&front, &kept[ENTRIES..], out)
 }
