@@ -1,10 +1,8 @@
 -- Numbers of the boundary that stand for a choice or a version of the label (document 02, item 11: "Every call that reads labels is
 -- told whether version 2 is allowed"; "The writer is told the version, and its byte 4 must agree, else 2").
-use Rattle.std.specs.Prelude.{ℕ, Bool, true, false, cond, List, eqb}
-use Rattle.answer.specs.Outcome.{Outcome, answer, refuse, and_then}
-use Rattle.answer.specs.Refusal.{number_of}
-use Rattle.label.specs.declared.Version.{Version}
-use Rattle.label.specs.declared.Version.TheVariants.{One, Two}
+use Rattle.std.specs.Prelude.{ℕ, Bool, true, false, List}
+use Rattle.answer.specs.Outcome.{Outcome, and_then}
+use Rattle.label.specs.Version.{numbered_version}
 use Rattle.label.specs.declared.Versions.{Versions}
 use Rattle.label.specs.declared.Versions.TheVariants as choice
 use Rattle.label_writer.specs.Write.{write_label}
@@ -14,11 +12,6 @@ abbrev pub choice_of : Bool → Versions
 choice_of true = choice.OneAndTwo
 choice_of false = choice.One
 
--- the version with this number; with any other number no byte 4 agrees, which is 2
-abbrev pub numbered_version : ℕ → Outcome Version
-numbered_version n = cond (eqb n 1) (answer One) (cond (eqb n 2) (answer Two) (refuse 2 0))
-
 -- the label writer, told the version by its number
 unfoldable pub write_numbered : ℕ → List ℕ → ℕ → ℕ → Outcome (List ℕ)
 write_numbered number head n room = and_then (numbered_version number) (λ version. write_label version head n room)
-

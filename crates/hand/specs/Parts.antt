@@ -1,19 +1,12 @@
 -- Parts of answers that have no number of their own in the library.
 use Rattle.std.specs.Prelude.{ℕ, ◌-◌, List, [], ◌∷◌, ℤ, pos, negsuc, get_or, Option, Some, None}
-use Rattle.label.specs.declared.Four.{Four}
-use Rattle.answer.specs.Outcome.{Outcome, answer, refuse}
-use Rattle.answer.specs.Refusal.{number_of}
 use Rattle.answer.specs.declared.Nesting.{Nesting}
 use Rattle.answer.specs.declared.Shown.{Shown}
-use Rattle.verdicts.specs.Verdict.{Side, below, inside, above}
-use Rattle.burst_fields.specs.Fields as field
-use Rattle.burst_codes.specs.Beams as mask
-use Rattle.burst_codes.specs.Modes as compression
+use Rattle.verdicts.specs.declared.Side.{Side}
+use Rattle.verdicts.specs.declared.Side.TheVariants.{Below, Inside, Above}
+use Rattle.burst_fields.specs.declared.Value.{Value}
+use Rattle.burst_fields.specs.declared.Value.TheVariants.{Unsigned, Signed, Float4, Float8, Text}
 use Rattle.hand.specs.declared.Stored.{Stored}
-
--- four characters as four bytes
-abbrev pub four_bytes : Four → List ℕ
-four_bytes f = f.a ∷ f.b ∷ f.c ∷ f.d ∷ []
 
 -- whether the depth is known: 1, and 0 where it is absent
 abbrev pub nesting_number : Option Nesting → ℕ
@@ -42,9 +35,9 @@ row_numbers old s =
 
 -- a verdict as a number
 abbrev pub side_number : Side → ℕ
-side_number below = 0
-side_number inside = 1
-side_number above = 2
+side_number Below = 0
+side_number Inside = 1
+side_number Above = 2
 
 -- the 64 bits of a signed number, in two's complement: −1 has them all set
 abbrev pub bits_of : ℤ → ℕ
@@ -53,19 +46,19 @@ bits_of (negsuc n) = 18446744073709551615 - n
 
 -- what a field holds, in four numbers: the number of its type; its bits, 0 for a text; and of a text the place and how many bytes it
 -- has, 0 and 0 for all others
-abbrev pub in_numbers : field.Content → Stored
-in_numbers (field.unsigned n) = record { kind = 0; bits = n; place = 0; shown = 0 }
-in_numbers (field.signed z) = record { kind = 1; bits = bits_of z; place = 0; shown = 0 }
-in_numbers (field.float4 bits) = record { kind = 2; bits = bits; place = 0; shown = 0 }
-in_numbers (field.float8 bits) = record { kind = 3; bits = bits; place = 0; shown = 0 }
-in_numbers (field.text p) = record { kind = 4; bits = 0; place = p.place; shown = p.count }
+abbrev pub in_numbers : Value → Stored
+in_numbers (Unsigned n) = record { kind = 0; bits = n; place = 0; shown = 0 }
+in_numbers (Signed z) = record { kind = 1; bits = bits_of z; place = 0; shown = 0 }
+in_numbers (Float4 bits) = record { kind = 2; bits = bits; place = 0; shown = 0 }
+in_numbers (Float8 bits) = record { kind = 3; bits = bits; place = 0; shown = 0 }
+in_numbers (Text p) = record { kind = 4; bits = 0; place = p.place; shown = p.count }
 
 -- the number of beams handed over for a mask: none where the mask is above
-abbrev pub beams_handed : mask.MaskVerdict → ℕ → ℕ
-beams_handed (mask.inside beams) old = beams
-beams_handed mask.above old = old
+abbrev pub beams_handed : Option ℕ → ℕ → ℕ
+beams_handed (Some beams) old = beams
+beams_handed None old = old
 
 -- a mode as a number: 8 for one that has no name
-abbrev pub mode_handed : compression.Numbered → ℕ
-mode_handed (compression.mode n) = n
-mode_handed compression.unnamed = 8
+abbrev pub mode_handed : Option ℕ → ℕ
+mode_handed (Some n) = n
+mode_handed None = 8

@@ -1,29 +1,46 @@
 // How numbers of the C boundary become the library's choices, and how an answer of the library is
-// handed over: its parts through the pointers, and the result by value. On a refusal no pointer is
+// handed over: its parts through the pointers, and the status by value. On a refusal no pointer is
 // written. Renders document 01's "Every refusal carries its number and a place" as numbers. The
 // exported functions are left to `capi`.
 #![tactic(auto)]
 
-ghost use Rattle.answer.specs.Told.{told};
 ghost use Rattle.std.specs.Prelude.{◌≡◌};
 ghost use Rattle.answer.specs.Refusal.{number_of};
-ghost use Rattle.label.specs.Version.{version_number};
-ghost use Rattle.answer.specs.Outcome.{mapped};
+ghost use Rattle.answer.specs.Told.{told};
 ghost use Rattle.hand.specs.Parts.{row_numbers, side_number, bits_of, in_numbers};
-ghost use Rattle.hand.specs.Handed.{refused_as, result_of, handed};
-ghost use Rattle.hand.specs.Numbers.{choice_of, numbered_version};
+ghost use Rattle.hand.specs.Handed.{refused_as, status_of, handed};
+ghost use Rattle.hand.specs.Numbers.{choice_of};
 
-use answer::{Nesting, Refusal, Refused};
+use answer::{Refused, Shown};
 use burst_fields::Value;
-use label::{Version, Versions};
-use verdicts::Judgement;
+use label::Versions;
+use verdicts::Side;
 
 // What every call across the boundary returns: a refusal's number and its place; 0 and 0 for an answer.
 #[repr(C)]
 #[derive(Clone, Copy)]
-pub struct Result {
+pub struct Status {
     pub refusal: usize,
     pub place: usize,
+}
+
+// The status of a call that answered.
+pub const DONE: Status = Status {
+    refusal: 0,
+    place: 0,
+};
+
+// The status of a call that refused.
+impl From<Refused> for Status {
+    ghost from_gives = { λ refused status. status ≡ refused_as (number_of refused.0) refused.1 };
+
+    fn from(refused: Refused) -> Status {
+        let refusal = refused.0.number();
+        Status {
+            refusal,
+            place: refused.1,
+        }
+    }
 }
 
 // Which versions are allowed, where version 2 is or is not.
@@ -36,121 +53,69 @@ pub fn choice(version_2: bool) -> Versions
     Versions::One
 }
 
-// The version with this number.
-pub fn version_with(number: u8) -> Result<Version, Refused>
-    ensures { told result ≡ numbered_version number }
-{
-    if number == 1 {
-        return Ok(Version::One);
-    }
-    if number == 2 {
-        return Ok(Version::Two);
-    }
-    Err(Refused(Refusal::BadLabel, 0))
-}
-
-// The number of a version.
-pub fn version_number(version: Version) -> u8
-    ensures { result ≡ version_number version }
-{
-    match version {
-        Version::One => 1,
-        Version::Two => 2,
-    }
-}
-
-// The result of a call that answered.
-pub const DONE: Result = Result {
-    refusal: 0,
-    place: 0,
-};
-
-// The result of a call that refused.
-pub fn refused(why: Refusal, place: usize) -> Result
-    ensures { result ≡ refused_as (number_of why) place }
-{
-    let refusal = answer::number(why);
-    Result { refusal, place }
-}
-
-// A number.
-pub fn count(answer: Result<usize, Refused>, number: &mut usize) -> Result
-    ensures value { result ≡ result_of (told answer) }
-    ensures number_after { number.new ≡ handed (λ n. n) (told answer) number.old }
+// An answer of one part: a number, or a float.
+pub fn value<T: Copy>(answer: Result<T, Refused>, memory: &mut T) -> Status
+    ensures value { result ≡ status_of (told answer) }
+    ensures memory_after { memory.new ≡ handed (λ x. x) (told answer) memory.old }
 {
     match answer {
-        Ok(n) => {
-            *number = n;
+        Ok(x) => {
+            *memory = x;
             DONE
         }
-        Err(Refused(why, place)) => refused(why, place),
+        Err(refused) => Status::from(refused),
     }
 }
 
-// What is told of a row, in six numbers: its place, how many bytes it has, its label's place, whether
+// What is shown of a row, in six numbers: its place, how many bytes it has, its label's place, whether
 // its depth is known, its depth, and its outermost object's place. Where the last two are absent, they
 // stay as they were.
-pub fn row(answer: Result<Shown, Refused>, numbers: &mut [usize; 6]) -> Result
-    ensures value { result ≡ result_of (told answer) }
+pub fn row(answer: Result<Shown, Refused>, numbers: &mut [usize; 6]) -> Status
+    ensures value { result ≡ status_of (told answer) }
     ensures numbers_after { numbers.new ≡ handed (row_numbers numbers.old) (told answer) numbers.old }
 {
     match answer {
-        Ok(s) => {
-            let place = s.part.place;
-            let count = s.part.count;
-            let address = s.address;
-            let label = address.label;
-            let nesting = address.nesting;
-            match nesting {
-                Nesting::Known(depth, outermost) => {
-                    *numbers = [place, count, label, 1, depth, outermost];
+        Ok(row) => {
+            let place = row.part.place;
+            let count = row.part.count;
+            let label = row.address.label;
+            match row.address.nesting {
+                Some(nesting) => {
+                    *numbers = [place, count, label, 1, nesting.depth, nesting.outermost];
                     DONE
                 }
-                Nesting::Absent => {
-                    let depth = numbers[4];
-                    let outermost = numbers[5];
-                    *numbers = [place, count, label, 0, depth, outermost];
+                None => {
+                    *numbers = [place, count, label, 0, numbers[4], numbers[5]];
                     DONE
                 }
             }
         }
-        Err(Refused(why, place)) => refused(why, place),
+        Err(refused) => Status::from(refused),
     }
 }
 
-// A float.
-pub fn float(answer: Result<f64, Refused>, number: &mut f64) -> Result
-    ensures value { result ≡ result_of (told answer) }
-    ensures number_after { number.new ≡ handed (λ x. x) (told answer) number.old }
+// The number of a verdict: 0 below, 1 inside, 2 above.
+fn side_number(side: Side) -> usize
+    ensures { result ≡ side_number side }
 {
-    match answer {
-        Ok(x) => {
-            *number = x;
-            DONE
-        }
-        Err(Refused(why, place)) => refused(why, place),
+    match side {
+        Side::Below => 0,
+        Side::Inside => 1,
+        Side::Above => 2,
     }
 }
 
-// A verdict: 0 below, 1 inside, 2 above.
-pub fn side(answer: Judgement, number: &mut usize) -> Result
-    ensures value { result ≡ result_of (told answer) }
+// A verdict.
+pub fn side(answer: Result<Side, Refused>, number: &mut usize) -> Status
+    ensures value { result ≡ status_of (told answer) }
     ensures number_after { number.new ≡ handed side_number (told answer) number.old }
 {
     match answer {
-        Judgement::Below => {
-            *number = 0;
+        Ok(side) => {
+            *number = side_number(side);
             DONE
         }
-        Judgement::Inside => {
-            *number = 1;
-            DONE
-        }
-        Judgement::Above => {
-            *number = 2;
-            DONE
-        }
-        Judgement::Refused(why, place) => refused(why, place),
+        Err(refused) => Status::from(refused),
     }
 }
 
@@ -161,47 +126,44 @@ pub struct Stored {
     pub kind: usize,
     pub bits: usize,
     pub place: usize,
-    pub told: usize,
+    pub shown: usize,
 }
 
 // The 64 bits of a signed number, in two's complement.
 fn signed_bits(number: i64) -> usize
     ensures { result ≡ bits_of number }
 {
-    if number < 0 {
-        let below = (-1 - number) as usize;
-        return 18446744073709551615 - below;
-    }
-    number as usize
+    number.cast_unsigned() as usize
 }
 
 // A number that is no text.
-fn plain(kind: usize, bits: usize) -> Result<Stored, Refused>
-    ensures { result ≡ Told.Is (record { kind = kind; bits = bits; place = 0; told = 0 }) }
+fn plain(kind: usize, bits: usize) -> Stored
+    ensures { result ≡ record { kind = kind; bits = bits; place = 0; shown = 0 } }
 {
-    Ok(Stored {
+    Stored {
         kind,
         bits,
         place: 0,
-        told: 0,
-    })
+        shown: 0,
+    }
 }
 
 // What a field holds, in numbers.
-pub fn in_numbers(value: Value) -> Result<Stored, Refused>
-    ensures { told result ≡ mapped in_numbers (told value) }
-{
-    match value {
-        Value::Unsigned(n) => plain(0, n as usize),
-        Value::Signed(n) => plain(1, signed_bits(n)),
-        Value::Float4(bits) => plain(2, bits as usize),
-        Value::Float8(bits) => plain(3, bits),
-        Value::Text(p) => Ok(Stored {
-            kind: 4,
-            bits: 0,
-            place: p.place,
-            told: p.count,
-        }),
-        Value::Refused(why, place) => Err(Refused(why, place)),
+impl From<Value> for Stored {
+    ghost from_gives = { λ value stored. stored ≡ in_numbers value };
+
+    fn from(value: Value) -> Stored {
+        match value {
+            Value::Unsigned(n) => plain(0, n as usize),
+            Value::Signed(n) => plain(1, signed_bits(n)),
+            Value::Float4(bits) => plain(2, bits as usize),
+            Value::Float8(bits) => plain(3, bits as usize),
+            Value::Text(part) => Stored {
+                kind: 4,
+                bits: 0,
+                place: part.place,
+                shown: part.count,
+            },
+        }
     }
 }

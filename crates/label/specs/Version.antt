@@ -1,6 +1,7 @@
 -- The versions of the label and the choice of them (document 02, item 11: "CCSDS version 2 has byte 4 equal to `2`"; "Every call
 -- that reads labels is told whether version 2 is allowed"). Byte 4 is a character: `1` is 49, `2` is 50.
-use Rattle.std.specs.Prelude.{ℕ, Bool, true, false, ◌&&◌, eqb}
+use Rattle.std.specs.Prelude.{ℕ, Bool, true, false, ◌&&◌, cond, eqb}
+use Rattle.answer.specs.Outcome.{Outcome, answer, refuse}
 use Rattle.label.specs.declared.Version.{Version}
 use Rattle.label.specs.declared.Version.TheVariants.{One, Two}
 use Rattle.label.specs.declared.Versions.{Versions}
@@ -10,6 +11,11 @@ use Rattle.label.specs.declared.Versions.TheVariants as choice
 abbrev pub version_number : Version → ℕ
 version_number One = 1
 version_number Two = 2
+
+-- the version with this number; with any other number no byte 4 agrees, which is 2 (document 02, item 11: "The writer is told the
+-- version, and its byte 4 must agree, else 2")
+abbrev pub numbered_version : ℕ → Outcome Version
+numbered_version n = cond (eqb n 1) (answer One) (cond (eqb n 2) (answer Two) (refuse 2 0))
 
 -- byte 4 of a label of this version
 abbrev pub version_byte : Version → ℕ

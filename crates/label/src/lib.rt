@@ -6,7 +6,7 @@
 
 ghost use Rattle.answer.specs.Told.{told};
 ghost use Rattle.std.specs.Prelude.{◌≡◌, ◌+◌, ◌≤◌, ◌==◌, not, length as size, drop, position};
-ghost use Rattle.label.specs.Version.{version_byte, version_for};
+ghost use Rattle.label.specs.Version.{version_number, version_byte, numbered_version, version_for};
 ghost use Rattle.label.specs.Head.{head_size, is_code, is_agency, is_form, is_description, head_good, is_head, four_at};
 ghost use Rattle.label.specs.Length.{field_size, spaces_in, number_in, after, binary, length_of};
 ghost use Rattle.label.specs.Opened.{is_opened};
@@ -27,6 +27,33 @@ const FIELD: usize = 8;
 pub enum Version {
     One,
     Two,
+}
+
+impl Version {
+    // The document's number of a version.
+    pub fn number(self) -> u8
+        ensures { result ≡ version_number self }
+    {
+        match self {
+            Version::One => 1,
+            Version::Two => 2,
+        }
+    }
+}
+
+// The version with a number; with any other number no byte 4 agrees, which is 2.
+impl TryFrom<u8> for Version {
+    type Error = Refused;
+
+    ghost try_from_gives = { λ number result. told result ≡ numbered_version number };
+
+    fn try_from(number: u8) -> Result<Version, Refused> {
+        match number {
+            1 => Ok(Version::One),
+            2 => Ok(Version::Two),
+            _ => Err(Refused(Refusal::BadLabel, 0)),
+        }
+    }
 }
 
 // Which versions a call allows.
