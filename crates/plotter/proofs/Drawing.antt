@@ -10,6 +10,11 @@ use lib.Seq.{take_at, drop_at, drop-drop, length-take-le}
 use lib.Dec.{leb}
 use borrow.Author.Tests.{le-leb}
 use borrow.Rule.Slice.PartMut.{put_mid}
+use Rattle.std.proofs.Common.{rules}
+use Rattle.std.specs.Prelude.{Result, Ok, Err, IsOk}
+use Rattle.answer.specs.Told.{told}
+use Rattle.answer.specs.declared.Refused.{Refused}
+use Rattle.reader.specs.Read.{row_from}
 use Rattle.answer.specs.Outcome.{Outcome, answer, refuse, need, mapped}
 use Rattle.answer.specs.Filled.{amount, filled}
 use Rattle.answer.specs.Window.{bytes_at, window_at, fits}
@@ -29,8 +34,8 @@ use Rattle.reader.specs.Demand3.{shown_bytes}
 use Rattle.reader.proofs.Found.{row_inside}
 use Rattle.reader.proofs.Rows.{reads_the_rows}
 use Rattle.plotter.specs.Strip.{each_of, windows_of, draw_into}
-use Rattle.plotter.specs.Private.{end_of, Starts}
-use Rattle.plotter.proofs.Going.{NextRow, Going, nothing_found, one_found, all_found, one_missing, rest_is}
+use Rattle.plotter.specs.Private.{end_of, judged}
+use Rattle.plotter.proofs.Going.{Starts, NextRow, Going, next_refused, nothing_found, one_found, all_found, one_missing, rest_is}
 use Rattle.plotter.proofs.Windows.{all_fit, fits_the_middle, rows_of_windows}
 
 -- the bytes of a row's window
@@ -207,6 +212,10 @@ module _ (kind : Kind) (f : List ℕ) (first n a c : ℕ) (old : List ℕ) where
           let w = rows_of_windows a c (row_of kind f) first n windows all in
           answer_is_no_refusal (sym w.found ∙ one_missing kind f first n y from d.rows d.going more m p e)
 
+      pub is_there : y < n → (r : Result Shown Refused) → told r ≡ row_from kind f from → IsOk r
+      is_there more (Ok row) e = search rules
+      is_there more (Err why) e = absurd (none_missing more _ _ (next_refused kind f (first + y) from d.going.next _ _ (sym e)))
+
       -- all lines drawn
       pub all_drawn : n ≤ y → n * line_bytes c ≤ length old → out ≡ filled (draw_into (length old) f (row_of kind f) first n a c 0) old
       all_drawn done room =
@@ -219,15 +228,15 @@ module _ (kind : Kind) (f : List ℕ) (first n a c : ℕ) (old : List ℕ) where
 
 -- what the strip is once its rows are judged: refused as they are, refused for want of room, or written
 module _ (room : ℕ) (kind : Kind) (f : List ℕ) (first n a c : ℕ) where
-  pub windows_refused : (m p : ℕ) → mapped length (windows_of (row_of kind f) first n a c) ≡ refuse m p → draw_into room f (row_of kind f) first n a c 0 ≡ refuse m p
+  pub windows_refused : (m p : ℕ) → judged (windows_of (row_of kind f) first n a c) ≡ refuse m p → draw_into room f (row_of kind f) first n a c 0 ≡ refuse m p
   unfolding draw_into
   windows_refused m p e =
       after_refusal (windows_of (row_of kind f) first n a c) (λ ws. need (leb (n * line_bytes c) room) 8 (answer (lines 0 (map (shown_bytes f) ws)))) m p
-      (refused_first (windows_of (row_of kind f) first n a c) length e)
+      (refused_first (windows_of (row_of kind f) first n a c) (λ ws. tt) e)
 
-  pub windows_there : (many : ℕ) → mapped length (windows_of (row_of kind f) first n a c) ≡ answer many → (windows : List Shown) × (windows_of (row_of kind f) first n a c ≡ answer windows)
-  windows_there many e =
-      let (windows, all, counted) = mapped_answer length (windows_of (row_of kind f) first n a c) many e in
+  pub windows_there : judged (windows_of (row_of kind f) first n a c) ≡ answer tt → (windows : List Shown) × (windows_of (row_of kind f) first n a c ≡ answer windows)
+  windows_there e =
+      let (windows, all, is) = mapped_answer (λ ws. tt) (windows_of (row_of kind f) first n a c) tt e in
       (windows, all)
 
   module _ (windows : List Shown) (all : windows_of (row_of kind f) first n a c ≡ answer windows) where

@@ -11,13 +11,19 @@ use Rattle.answer.proofs.Outcomes.{after_answer, after_refusal, and_then_agrees,
 use Rattle.dot_lines.specs.Line.{counted_from}
 use Rattle.reader.specs.declared.Kind.{Kind}
 use Rattle.reader.specs.declared.Kind.TheVariants.{Labelled, Waveform, Bursts}
-use Rattle.reader.specs.Rows.{row_of}
+use Rattle.reader.specs.Rows.{row_parts, row_of}
 use Rattle.reader.specs.Read.{row_from, kept_of}
 use Rattle.reader.proofs.Found.{row_inside}
 use Rattle.reader.proofs.Rows.{reads_the_rows}
 use Rattle.reader.proofs.NextRow.{goes_on}
 use Rattle.plotter.specs.Strip.{each_of}
-use Rattle.plotter.specs.Private.{end_of, Starts}
+use Rattle.plotter.specs.Private.{end_of}
+
+-- the file is accepted, and going on from a place comes to row k
+pub record Starts (kind : Kind) (f : List ℕ) (k from : ℕ) : Type 0 where
+  pub rows : List Shown
+  pub accepted : row_parts kind f ≡ answer rows
+  pub comes : row_from kind f from ≡ mapped (kept_of kind) (row_of kind f k)
 
 -- what going on keeps of a row has the row's bytes
 kept_part : (kind : Kind) (row : Shown) → (kept_of kind row).part ≡ row.part

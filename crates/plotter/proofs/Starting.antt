@@ -1,6 +1,7 @@
 -- Where a strip starts: what is known of the file then, and what the strip is where no start is found, where it has no rows and where it is
 -- drawn.
-use Prim.Native.Nat.{ℕ, zero, suc, ◌*◌, ◌<◌}
+use Rattle.std.proofs.Common.{rules}
+use Prim.Native.Nat.{ℕ, zero, suc, ◌*◌, ◌-◌, ◌≤◌, ◌<◌}
 use native.Mathlib.Nat.{not-suc-le-zero, zero-mul}
 use native.Mathlib.Numerals.{add-one}
 use native.Mathlib.Omega.{arith}
@@ -9,7 +10,10 @@ use mathlib.Core.Bool.{Bool}
 use mathlib.Core.List.{List, [], ◌∷◌, map}
 use lib.ListN.{length}
 use lib.Dec.{leb}
-use borrow.Author.Tests.{le-leb}
+use borrow.Author.Tests.{le-leb, eqb-true}
+use Rattle.std.specs.Prelude.{IsTrue}
+use Rattle.reader.specs.Read.{find_row}
+use Rattle.reader.proofs.Rows.{reads_the_rows}
 use Rattle.answer.specs.Outcome.{Outcome, answer, refuse, need, mapped}
 use Rattle.answer.specs.Nth.{nth}
 use Rattle.answer.specs.Filled.{Writes}
@@ -24,7 +28,8 @@ use Rattle.reader.specs.Demand3.{shown_bytes}
 use Rattle.reader.proofs.Demand2.{demand_2}
 use Rattle.reader.proofs.NextRow.{goes_on}
 use Rattle.plotter.specs.Strip.{each_of, windows_of, draw_into, strip_into}
-use Rattle.plotter.specs.Private.{end_of, start_of, Starts}
+use Rattle.plotter.specs.Private.{end_of, start_of, is_answer, is_start}
+use Rattle.plotter.proofs.Going.{Starts}
 use Rattle.plotter.proofs.Judging.{row_refused}
 
 module _ (kind : Kind) (f : List ℕ) where
@@ -53,6 +58,25 @@ module _ (kind : Kind) (f : List ℕ) where
         accepted = accepted;
         comes = subst (λ (m : ℕ). row_from kind f from ≡ mapped (kept_of kind) (row_of kind f m)) (add-one k) (ap (row_from kind f) (sym is) ∙ (goes_on kind f rows accepted).next k row found);
       }
+
+  -- the start of a row that is not the first one is the end of the row before it
+  pub start_behind : (first : ℕ) → 1 ≤ first → start_of kind f first ≡ mapped end_of (find_row kind f (first - 1))
+  start_behind first some =
+      ap (start_of kind f) {x = first} {y = suc (first - 1)} (omega arith)
+      ∙ ap (mapped end_of) (sym (reads_the_rows kind f (first - 1)))
+
+  -- what is known of a start
+  pub known_start : (first from : ℕ) → IsTrue (is_start kind f first from) → Starts kind f first from
+  unfolding is_start
+  known_start first from h = go (start_of kind f first) refl h
+    where
+      go : (o : Outcome ℕ) → start_of kind f first ≡ o → IsTrue (is_answer o from) → Starts kind f first from
+      go (answer n) e t = starts first from (e ∙ ap answer (eqb-true n from t))
+      go (refuse m p) e t = search rules
+
+  pub is_a_start : (first from : ℕ) → start_of kind f first ≡ answer from → IsTrue (is_start kind f first from)
+  unfolding is_start
+  is_a_start first from e = rw e (search rules)
 
   -- the row behind one that is missing is missing
   none_behind : (rows : List Shown) (k m p : ℕ) → nth rows k ≡ refuse m p → nth rows (suc k) ≡ refuse m p
