@@ -2,10 +2,10 @@
 use Prim.Native.Nat.{ℕ, zero, suc, ◌+◌, ◌-◌, ◌*◌, ◌≤◌, ◌<◌}
 use native.Mathlib.Nat.{zero-mul, add-mul, le_trans, mul-le-mul_right}
 use native.Mathlib.Omega.{arith}
-use mathlib.Core.Path.{◌≡◌, refl, ◌∙◌, sym, ap, ap₂, subst}
+use mathlib.Core.Path.{◌≡◌, ◌∙◌, sym, ap, ap₂, subst}
 use mathlib.Core.Bool.{Bool, true, false}
-use mathlib.Core.List.{List, [], ◌∷◌, ◌++◌, map, append_assoc, append-nil}
-use lib.ListN.{length, take, drop, length-append, length-drop}
+use mathlib.Core.List.{List, [], ◌∷◌, ◌++◌, map, append_assoc, append-nil, map-append, map-map}
+use lib.ListN.{length, take, drop, length-append, length-drop, length-map}
 use lib.Seq.{take_at, drop_at, drop-drop, length-take-le}
 use lib.Dec.{leb}
 use borrow.Author.Tests.{le-leb}
@@ -41,19 +41,6 @@ use Rattle.plotter.proofs.Windows.{all_fit, fits_the_middle, rows_of_windows}
 -- the bytes of a row's window
 abbrev pub window_bytes : List ℕ → ℕ → ℕ → Shown → List ℕ
 window_bytes f a c row = shown_bytes f (window_at a c row)
-
--- maps of maps and of lists end to end
-pub map_both : {A B : Type 0} (g : A → B) (xs ys : List A) → map g (xs ++ ys) ≡ map g xs ++ map g ys
-map_both g [] ys = refl
-map_both g (x ∷ xs) ys = ap (λ (zs : List _). g x ∷ zs) (map_both g xs ys)
-
-pub map_twice : {A B C : Type 0} (g : A → B) (h : B → C) (xs : List A) → map h (map g xs) ≡ map (λ x. h (g x)) xs
-map_twice g h [] = refl
-map_twice g h (x ∷ xs) = ap (λ (zs : List _). h (g x) ∷ zs) (map_twice g h xs)
-
-pub length-map : {A B : Type 0} (g : A → B) (xs : List A) → length (map g xs) ≡ length xs
-length-map g [] = refl
-length-map g (x ∷ xs) = ap suc (length-map g xs)
 
 one_line : (y : ℕ) (window : List ℕ) → lines y (window ∷ []) ≡ line y window
 one_line y window = append-nil (line y window)
@@ -103,14 +90,14 @@ are_drawn room kind f first n a c windows all =
     let many = each_many kind f a c n first w.rows w.found in
     let wide = each_wide kind f a c n first w.rows w.found w.fit in
     let drawn : lines 0 (map (window_bytes f a c) w.rows) ≡ lines 0 (map (shown_bytes f) windows) =
-    ap (lines 0) (sym (map_twice (window_at a c) (shown_bytes f) w.rows) ∙ ap (map (shown_bytes f)) w.are) in
+    ap (lines 0) (sym (map-map (shown_bytes f) (window_at a c) w.rows) ∙ ap (map (shown_bytes f)) w.are) in
     record {
       rows = w.rows;
       found = w.found;
       many = many;
       wide = wide;
       drawn = drawn;
-      long = lines_long c 0 (map (window_bytes f a c) w.rows) wide ∙ ap (λ (k : ℕ). k * line_bytes c) (length-map (window_bytes f a c) w.rows ∙ many);
+      long = lines_long c 0 (map (window_bytes f a c) w.rows) wide ∙ ap (λ (k : ℕ). k * line_bytes c) (length-map w.rows (window_bytes f a c) ∙ many);
       called = λ b e.
           after_answer (windows_of (row_of kind f) first n a c) (λ ws. need (leb (n * line_bytes c) room) 8 (answer (lines 0 (map (shown_bytes f) ws)))) windows all
           ∙ ap₂ (λ (t : Bool) (l : List ℕ). need t 8 (answer l)) e (sym drawn);
@@ -151,7 +138,7 @@ module _ (kind : Kind) (f : List ℕ) (first n a c : ℕ) (old : List ℕ) where
 
   module _ (out : List ℕ) (from y : ℕ) (d : Drawing kind f first n a c old out from y) where
     drawn_long : length (lines 0 (map (window_bytes f a c) d.rows)) ≡ y * line_bytes c
-    drawn_long = lines_long c 0 (map (window_bytes f a c) d.rows) d.wide ∙ ap (λ (k : ℕ). k * line_bytes c) (length-map (window_bytes f a c) d.rows ∙ d.going.many)
+    drawn_long = lines_long c 0 (map (window_bytes f a c) d.rows) d.wide ∙ ap (λ (k : ℕ). k * line_bytes c) (length-map d.rows (window_bytes f a c) ∙ d.going.many)
 
     pub lines_fit : n * line_bytes c ≤ length old → y * line_bytes c ≤ length old
     lines_fit room = le_trans (mul-le-mul_right (line_bytes c) d.going.within) room
@@ -179,7 +166,7 @@ module _ (kind : Kind) (f : List ℕ) (first n a c : ℕ) (old : List ℕ) where
         lines_of_both 0 (map (window_bytes f a c) d.rows) (window ∷ [])
         ∙ ap (λ (l : List ℕ). lines 0 (map (window_bytes f a c) d.rows) ++ l)
         (one_line (0 + length (map (window_bytes f a c) d.rows)) window
-        ∙ ap (λ (k : ℕ). line k window) {x = 0 + length (map (window_bytes f a c) d.rows)} {y = y} (omega (arith, length-map (window_bytes f a c) d.rows, d.going.many)))
+        ∙ ap (λ (k : ℕ). line k window) {x = 0 + length (map (window_bytes f a c) d.rows)} {y = y} (omega (arith, length-map d.rows (window_bytes f a c), d.going.many)))
 
     pub one_drawn : y < n → (next : Shown) → NextRow kind f (first + y) next → fits next.part.count a c ≡ true → (after : List ℕ)
         → after ≡ take (y * line_bytes c) out ++ line y (bytes_at f (next.part.place + a) c) ++ drop (y * line_bytes c + line_bytes c) out
@@ -188,7 +175,7 @@ module _ (kind : Kind) (f : List ℕ) (first n a c : ℕ) (old : List ℕ) where
         let window = bytes_at f (next.part.place + a) c in
         let same : window_bytes f a c r.row ≡ window = ap (λ (p : Part). bytes_at f (p.place + a) c) r.part in
         let all : map (window_bytes f a c) (d.rows ++ r.row ∷ []) ≡ map (window_bytes f a c) d.rows ++ window ∷ [] =
-        map_both (window_bytes f a c) d.rows (r.row ∷ []) ∙ ap (λ (w : List ℕ). map (window_bytes f a c) d.rows ++ w ∷ []) same in
+        map-append (window_bytes f a c) d.rows (r.row ∷ []) ∙ ap (λ (w : List ℕ). map (window_bytes f a c) d.rows ++ w ∷ []) same in
         record {
           rows = d.rows ++ r.row ∷ [];
           going = one_found kind f first n y from d.rows d.going more next r;

@@ -6,7 +6,7 @@ use native.Mathlib.Omega.{arith}
 use mathlib.Core.Path.{◌≡◌, refl, ◌∙◌, sym, ap, subst}
 use mathlib.Core.Bool.{Bool, true, cond}
 use mathlib.Core.List.{List, [], ◌∷◌, map}
-use lib.ListN.{length, get_or, drop}
+use lib.ListN.{length, get_or, drop, length-map}
 use lib.Seq.{get_or-take, get_or-drop}
 use lib.Dec.{leb}
 use borrow.Author.Tests.{lt-ltb, le-ltb}
@@ -31,7 +31,7 @@ use Rattle.plotter.specs.Strip.{each_of, windows_of, draw_into, strip_into}
 use Rattle.trace.specs.Behind.{dot_from, dot_behind}
 use Rattle.trace.specs.Tracing.{StandsBehind, Traced}
 use Rattle.plotter.proofs.Windows.{all_fit, rows_of_windows}
-use Rattle.plotter.proofs.Drawing.{window_bytes, length-map, window_inside, bytes_wide, each_many, each_wide, are_drawn}
+use Rattle.plotter.proofs.Drawing.{window_bytes, window_inside, bytes_wide, each_many, each_wide, are_drawn}
 use Rattle.trace.proofs.OneDot.{dot_of_row}
 
 -- one of the rows of a strip, and its window
@@ -119,7 +119,7 @@ module _ (kind : Kind) (f : List ℕ) (first n a c : ℕ) where
     bit_at x y column row =
         ap (λ (b : ℕ). b / 2 ^ (7 - x % 8) % 2)
         (byte_of_lines c 0 windows (each_wide kind f a c n first rows found fit) y (x / 8)
-        (omega (arith, length-map (window_bytes f a c) rows, each_many kind f a c n first rows found, row)) (omega (arith, column))
+        (omega (arith, length-map rows (window_bytes f a c), each_many kind f a c n first rows found, row)) (omega (arith, column))
         ∙ ap (λ (k : ℕ). get_or (line k (get_or windows y [])) (x / 8) 0) {x = 0 + y} {y = y} (omega arith))
         ∙ bit_of_line y (get_or windows y []) x (omega (arith, column, ap line_bytes (width y row)))
 
