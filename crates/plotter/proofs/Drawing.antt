@@ -25,7 +25,8 @@ use Rattle.answer.proofs.Tests.{both_hold}
 use Rattle.answer.proofs.Parts.{all_that_is_left}
 use Rattle.answer.proofs.Writers.{put_behind}
 use Rattle.answer.proofs.Windows.{fitting_is_inside}
-use Rattle.dot_lines.specs.Line.{counted_from, line_bytes, line, lines, line_into}
+use Rattle.std.specs.List.{range_with_len}
+use Rattle.dot_lines.specs.Line.{line_bytes, line, lines, line_into}
 use Rattle.dot_lines.proofs.Bytes.{line_long}
 use Rattle.dot_lines.proofs.Lines.{AllWide, wide_both, lines_of_both, lines_long}
 use Rattle.reader.specs.declared.Kind.{Kind}
@@ -56,26 +57,26 @@ bytes_wide f place c h = length-take-le c (drop place f) (omega (arith, length-d
 
 -- the windows of rows that are all there are all in the file, and as many as were asked for
 module _ (kind : Kind) (f : List ℕ) (a c : ℕ) where
-  pub each_many : (n first : ℕ) (rows : List Shown) → each_of (row_of kind f) (counted_from first n) ≡ answer rows → length rows ≡ n
+  pub each_many : (n first : ℕ) (rows : List Shown) → each_of (row_of kind f) (range_with_len first n) ≡ answer rows → length rows ≡ n
   each_many zero first rows e = ap length (sym (answer_injective e))
   each_many (suc n) first rows e =
-      let (row, is_row, more) = first_answered (row_of kind f first) (λ r. mapped (λ rest. r ∷ rest) (each_of (row_of kind f) (counted_from (suc first) n))) rows e in
-      let (rest, left, are) = mapped_answer (λ rest. row ∷ rest) (each_of (row_of kind f) (counted_from (suc first) n)) rows more in
-      ap length (sym are) ∙ ap suc (each_many n (suc first) rest left)
+      let (row, is_row, more) = first_answered (row_of kind f first) (λ r. mapped (λ rest. r ∷ rest) (each_of (row_of kind f) (range_with_len (first + 1) n))) rows e in
+      let (rest, left, are) = mapped_answer (λ rest. row ∷ rest) (each_of (row_of kind f) (range_with_len (first + 1) n)) rows more in
+      ap length (sym are) ∙ ap suc (each_many n (first + 1) rest left)
 
-  pub each_wide : (n first : ℕ) (rows : List Shown) → each_of (row_of kind f) (counted_from first n) ≡ answer rows → all_fit a c rows ≡ true → AllWide c (map (window_bytes f a c) rows)
+  pub each_wide : (n first : ℕ) (rows : List Shown) → each_of (row_of kind f) (range_with_len first n) ≡ answer rows → all_fit a c rows ≡ true → AllWide c (map (window_bytes f a c) rows)
   each_wide zero first rows e fit = subst (λ (rs : List Shown). AllWide c (map (window_bytes f a c) rs)) (answer_injective e) tt
   each_wide (suc n) first rows e fit =
-      let (row, is_row, more) = first_answered (row_of kind f first) (λ r. mapped (λ rest. r ∷ rest) (each_of (row_of kind f) (counted_from (suc first) n))) rows e in
-      let (rest, left, are) = mapped_answer (λ rest. row ∷ rest) (each_of (row_of kind f) (counted_from (suc first) n)) rows more in
+      let (row, is_row, more) = first_answered (row_of kind f first) (λ r. mapped (λ rest. r ∷ rest) (each_of (row_of kind f) (range_with_len (first + 1) n))) rows e in
+      let (rest, left, are) = mapped_answer (λ rest. row ∷ rest) (each_of (row_of kind f) (range_with_len (first + 1) n)) rows more in
       let both = both_hold (fits row.part.count a c) (all_fit a c rest) (ap (all_fit a c) are ∙ fit) in
       let inside = window_inside f row a c (row_inside kind f first row (reads_the_rows kind f first ∙ is_row)) both.0 in
-      subst (λ (rs : List Shown). AllWide c (map (window_bytes f a c) rs)) are (bytes_wide f (row.part.place + a) c inside, each_wide n (suc first) rest left both.1)
+      subst (λ (rs : List Shown). AllWide c (map (window_bytes f a c) rs)) are (bytes_wide f (row.part.place + a) c inside, each_wide n (first + 1) rest left both.1)
 
 -- the lines of a strip that is drawn
 pub record Drawn (room : ℕ) (kind : Kind) (f : List ℕ) (first n a c : ℕ) (windows : List Shown) : Type 0 where
   pub rows : List Shown
-  pub found : each_of (row_of kind f) (counted_from first n) ≡ answer rows
+  pub found : each_of (row_of kind f) (range_with_len first n) ≡ answer rows
   pub many : length rows ≡ n
   pub wide : AllWide c (map (window_bytes f a c) rows)
   pub drawn : lines 0 (map (window_bytes f a c) rows) ≡ lines 0 (map (shown_bytes f) windows)
@@ -191,7 +192,7 @@ module _ (kind : Kind) (f : List ℕ) (first n a c : ℕ) (old : List ℕ) where
       pub next_fits : y < n → (row : Shown) → row_of kind f (first + y) ≡ answer row → fits row.part.count a c ≡ true
       next_fits more row is_row =
           let w = rows_of_windows a c (row_of kind f) first n windows all in
-          let (rest, left, are) = mapped_answer (λ rest. d.rows ++ row ∷ rest) (each_of (row_of kind f) (counted_from (first + (y + 1)) (n - (y + 1)))) w.rows (sym (rest_is kind f first n y from d.rows d.going more row is_row) ∙ w.found) in
+          let (rest, left, are) = mapped_answer (λ rest. d.rows ++ row ∷ rest) (each_of (row_of kind f) (range_with_len (first + (y + 1)) (n - (y + 1)))) w.rows (sym (rest_is kind f first n y from d.rows d.going more row is_row) ∙ w.found) in
           fits_the_middle a c d.rows rest row (ap (all_fit a c) are ∙ w.fit)
 
       pub none_missing : y < n → (m p : ℕ) → row_of kind f (first + y) ≡ refuse m p → ⊥

@@ -8,7 +8,7 @@ use Rattle.answer.specs.Window.{fits, window_at, window_in}
 use Rattle.answer.specs.declared.Part.{Part}
 use Rattle.answer.specs.declared.Shown.{Shown}
 use Rattle.answer.proofs.Outcomes.{after_refusal}
-use Rattle.dot_lines.specs.Line.{counted_from}
+use Rattle.std.specs.List.{range_with_len}
 use Rattle.reader.specs.declared.Kind.{Kind}
 use Rattle.reader.specs.Rows.{row_of}
 use Rattle.plotter.specs.Strip.{each_of, windows_of}
@@ -26,9 +26,9 @@ module _ (kind : Kind) (f : List ℕ) (first n a c : ℕ) where
   nothing_judged from s = record { rows = []; going = nothing_found kind f first n from s; fits_all = refl }
 
   -- windows that are refused because a row is
-  pub row_refused : (m p : ℕ) → each_of (row_of kind f) (counted_from first n) ≡ refuse m p → windows_of (row_of kind f) first n a c ≡ refuse m p
+  pub row_refused : (m p : ℕ) → each_of (row_of kind f) (range_with_len first n) ≡ refuse m p → windows_of (row_of kind f) first n a c ≡ refuse m p
   unfolding windows_of
-  row_refused m p e = after_refusal (each_of (row_of kind f) (counted_from first n)) (each_of (window_in a c)) m p e
+  row_refused m p e = after_refusal (each_of (row_of kind f) (range_with_len first n)) (each_of (window_in a c)) m p e
 
   module _ (fit : Bool) (from found : ℕ) (j : Judging kind f first n a c fit from found) where
     pub one_judged : found < n → (next : Shown) → NextRow kind f (first + found) next → (fitted : Bool) → fitted ≡ fits next.part.count a c

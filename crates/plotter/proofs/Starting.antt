@@ -1,7 +1,7 @@
 -- Where a strip starts: what is known of the file then, and what the strip is where no start is found, where it has no rows and where it is
 -- drawn.
 use Rattle.std.proofs.Common.{rules}
-use Prim.Native.Nat.{ℕ, zero, suc, ◌*◌, ◌-◌, ◌≤◌, ◌<◌}
+use Prim.Native.Nat.{ℕ, zero, suc, ◌+◌, ◌*◌, ◌-◌, ◌≤◌, ◌<◌}
 use native.Mathlib.Nat.{not-suc-le-zero, zero-mul}
 use native.Mathlib.Numerals.{add-one}
 use native.Mathlib.Omega.{arith}
@@ -20,7 +20,8 @@ use Rattle.answer.specs.Filled.{Writes}
 use Rattle.answer.specs.declared.Shown.{Shown}
 use Rattle.answer.proofs.Outcomes.{after_answer, after_refusal, first_answered, and_then_agrees, mapped_answer, refused_first, answer_is_no_refusal}
 use Rattle.answer.proofs.Writers.{refused_writes_nothing, written_to_the_front}
-use Rattle.dot_lines.specs.Line.{counted_from, line_bytes, lines}
+use Rattle.std.specs.List.{range_with_len}
+use Rattle.dot_lines.specs.Line.{line_bytes, lines}
 use Rattle.reader.specs.declared.Kind.{Kind}
 use Rattle.reader.specs.Rows.{row_parts, check_file, row_of}
 use Rattle.reader.specs.Read.{row_from, beginning, kept_of}
@@ -102,9 +103,9 @@ module _ (kind : Kind) (f : List ℕ) where
         after_refusal (windows_of (row_of kind f) first n a c) (λ windows. need (leb (n * line_bytes c) room) 8 (answer (lines 0 (map (shown_bytes f) windows)))) m p
         (row_refused kind f first n a c m p (each n some))
       where
-        each : (i : ℕ) → 0 < i → each_of (row_of kind f) (counted_from first i) ≡ refuse m p
+        each : (i : ℕ) → 0 < i → each_of (row_of kind f) (range_with_len first i) ≡ refuse m p
         each zero h = absurd (not-suc-le-zero h)
-        each (suc i) h = after_refusal (row_of kind f first) (λ row. mapped (λ rest. row ∷ rest) (each_of (row_of kind f) (counted_from (suc first) i))) m p e
+        each (suc i) h = after_refusal (row_of kind f first) (λ row. mapped (λ rest. row ∷ rest) (each_of (row_of kind f) (range_with_len (first + 1) i))) m p e
 
   -- no start: the strip is refused so
   pub no_start : (room first n a c : ℕ) → 0 < n → (m p : ℕ) → start_of kind f first ≡ refuse m p → strip_into room kind f first n a c ≡ refuse m p
