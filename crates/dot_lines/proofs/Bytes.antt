@@ -6,10 +6,11 @@ use native.Mathlib.Decide.{dec_le}
 use native.Mathlib.Omega.{arith}
 use mathlib.Core.Path.{◌≡◌, refl, ◌∙◌, sym, ap}
 use mathlib.Core.Bool.{Bool, true, false, cond}
-use mathlib.Core.List.{List, [], ◌++◌, map}
+use mathlib.Core.List.{List, [], ◌++◌}
 use lib.ListN.{length, get_or, set, take, drop}
 use lib.Seq.{take-length, drop-drop}
 use Rattle.std.specs.Simd.{first_chunks}
+use Rattle.std.proofs.lemmas.List.FromFn.{length-map-range_with_len, get_or-map-range_with_len}
 use Rattle.std.proofs.lemmas.List.{get_or-take, get_or-drop, get_or_default, get_or_past}
 use lib.Dec.{ltb}
 use borrow.Author.Tests.{lt-ltb, le-ltb}
@@ -17,7 +18,7 @@ use Rattle.answer.proofs.Writers.{Putting, one_put, all_put}
 use Rattle.dots.specs.Tone.{tone}
 use Rattle.dots.specs.Matrix.{level}
 use Rattle.dots.specs.Dot.{is_dot, bit}
-use Rattle.dot_lines.specs.Line.{line_bytes, dot_bit, eight, line_byte, counted_from, line}
+use Rattle.dot_lines.specs.Line.{line_bytes, dot_bit, eight, line_byte, line}
 use Rattle.dot_lines.specs.Private.{dots_of}
 use Rattle.dots.proofs.Curve.{tone_of_255}
 use Rattle.dots.proofs.Levels.{level_small, same_place}
@@ -78,23 +79,14 @@ module _ (y : ℕ) (window : List ℕ) (j : ℕ) where
 
 -- ---- a line's length and its bytes
 
-length_counted : (f : ℕ → ℕ) (n k : ℕ) → length (map f (counted_from k n)) ≡ n
-length_counted f zero k = refl
-length_counted f (suc n) k = ap suc (length_counted f n (suc k))
-
-nth_counted : (f : ℕ → ℕ) (n k j : ℕ) → j < n → get_or (map f (counted_from k n)) j 0 ≡ f (k + j)
-nth_counted f zero k j h = absurd (not-suc-le-zero h)
-nth_counted f (suc n) k zero h = ap f {x = k} {y = k + 0} (omega arith)
-nth_counted f (suc n) k (suc j) h = nth_counted f n (suc k) j (omega arith) ∙ ap f {x = suc k + j} {y = k + suc j} (omega arith)
-
 module _ (y : ℕ) (window : List ℕ) where
   pub line_long : length (line y window) ≡ line_bytes (length window)
   unfolding line
-  line_long = length_counted (line_byte y window) (line_bytes (length window)) 0
+  line_long = length-map-range_with_len (line_byte y window) 0 (line_bytes (length window))
 
   pub line_at : (j : ℕ) → j < line_bytes (length window) → get_or (line y window) j 0 ≡ line_byte y window j
   unfolding line
-  line_at j h = nth_counted (line_byte y window) (line_bytes (length window)) 0 j h ∙ ap (line_byte y window) {x = 0 + j} {y = j} (omega arith)
+  line_at j h = get_or-map-range_with_len (line_byte y window) 0 (line_bytes (length window)) j j 0 h (omega arith)
 
   -- one more byte of the line put
   pub line_more : (old out : List ℕ) (j v : ℕ) → Putting (line y window) old out (line_bytes (length window)) j → line_bytes (length window) ≤ length old

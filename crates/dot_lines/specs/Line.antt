@@ -1,6 +1,7 @@
 -- A plotter line (document 02, item 7: "byte x of the window stands at column x"; "Lines stand end to end, each in whole bytes, eight dots
 -- a byte, leftmost highest, unused bits zero").
-use Rattle.std.specs.Prelude.{ℕ, zero, suc, ◌+◌, ◌-◌, ◌*◌, ◌/◌, ◌%◌, ◌^◌, cond, List, [], ◌∷◌, ◌++◌, map, length, get_or, leb, ltb}
+use Rattle.std.specs.Prelude.{ℕ, suc, ◌+◌, ◌-◌, ◌*◌, ◌/◌, ◌%◌, ◌^◌, cond, List, [], ◌∷◌, ◌++◌, map, length, get_or, leb, ltb}
+use Rattle.std.specs.List.{range_with_len}
 use Rattle.answer.specs.Outcome.{Outcome, answer, need}
 use Rattle.dots.specs.Tone.{tone}
 use Rattle.dots.specs.Dot.{is_dot, bit}
@@ -18,18 +19,13 @@ abbrev pub eight : (ℕ → ℕ) → ℕ
 eight bits =
     128 * bits 0 + 64 * bits 1 + 32 * bits 2 + 16 * bits 3 + 8 * bits 4 + 4 * bits 5 + 2 * bits 6 + bits 7
 
--- n numbers in a row: k, k + 1, ..
-abbrev pub counted_from : ℕ → ℕ → List ℕ
-counted_from k zero = []
-counted_from k (suc n) = k ∷ counted_from (suc k) n
-
 -- byte j of line y, for a window of these bytes
 unfoldable pub line_byte : ℕ → List ℕ → ℕ → ℕ
 line_byte y window j = eight (λ i. dot_bit y window (8 * j + i))
 
 -- the line
 unfoldable pub line : ℕ → List ℕ → List ℕ
-line y window = map (line_byte y window) (counted_from 0 (line_bytes (length window)))
+line y window = map (line_byte y window) (range_with_len 0 (line_bytes (length window)))
 
 -- lines end to end, the first of them line y
 abbrev pub lines : ℕ → List (List ℕ) → List ℕ

@@ -1,4 +1,5 @@
--- The numbers of the matrix: a test is computed once for its 64 places, that each number is below 64.
+-- The numbers of the matrix: the code's are those that the rule grows, and a test is computed once for its 64 places, that each number is
+-- below 64.
 use Prim.Native.Nat.{ℕ, ◌+◌, ◌*◌, ◌%◌, ◌<◌}
 use native.Mathlib.Omega.{arith}
 use mathlib.Core.Path.{◌≡◌, refl, ap₂}
@@ -7,6 +8,7 @@ use mathlib.Core.List.{[]}
 use lib.ListN.{get_or}
 use lib.Dec.{ltb}
 use borrow.Author.Tests.{ltb-true}
+use Rattle.dots.specs.declared.TheConstants.{MATRIX}
 use Rattle.dots.specs.Matrix.{matrix, level}
 use Rattle.dots.specs.Dot.{is_dot}
 use Rattle.dots.proofs.Tables.{all_below, below}
@@ -24,6 +26,11 @@ unfolding is_small level
 level_small y x =
     ltb-true (level y x) 64
     (below (is_small (y % 8)) 8 (below (λ r. all_below 8 (is_small r)) 8 tested (y % 8) (omega arith)) (x % 8) (omega arith))
+
+-- the code's 64 numbers are those that the rule grows
+pub level_is : (y x : ℕ) → get_or (get_or MATRIX (y % 8) []) (x % 8) 0 ≡ level y x
+unfolding level matrix
+level_is y x = refl
 
 -- rows and columns repeat after eight
 pub same_place : (t x y i j : ℕ) → x % 8 ≡ i % 8 → y % 8 ≡ j % 8 → is_dot t x y ≡ is_dot t i j

@@ -47,7 +47,6 @@ pub fn tone(sample: u8) -> u8
 }
 
 // The number of the matrix for row `y` and column `x`.
-#[tactic(auto, using(crate::proofs::Levels::level_small), unfolding(crate::specs::Matrix::level, crate::specs::Matrix::matrix))]
 pub fn matrix_at(x: usize, y: usize) -> usize
     ensures { (result ≡ level y x) × (result < 64) }
 {

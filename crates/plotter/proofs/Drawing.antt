@@ -2,14 +2,19 @@
 use Prim.Native.Nat.{ℕ, zero, suc, ◌+◌, ◌-◌, ◌*◌, ◌≤◌, ◌<◌}
 use native.Mathlib.Nat.{zero-mul, add-mul, le_trans, mul-le-mul_right}
 use native.Mathlib.Omega.{arith}
-use mathlib.Core.Path.{◌≡◌, refl, ◌∙◌, sym, ap, ap₂, subst}
+use mathlib.Core.Path.{◌≡◌, ◌∙◌, sym, ap, ap₂, subst}
 use mathlib.Core.Bool.{Bool, true, false}
-use mathlib.Core.List.{List, [], ◌∷◌, ◌++◌, map, append_assoc, append-nil}
-use lib.ListN.{length, take, drop, length-append, length-drop}
+use mathlib.Core.List.{List, [], ◌∷◌, ◌++◌, map, append_assoc, append-nil, map-append, map-map}
+use lib.ListN.{length, take, drop, length-append, length-drop, length-map}
 use lib.Seq.{take_at, drop_at, drop-drop, length-take-le}
 use lib.Dec.{leb}
 use borrow.Author.Tests.{le-leb}
 use borrow.Rule.Slice.PartMut.{put_mid}
+use Rattle.std.proofs.Common.{rules}
+use Rattle.std.specs.Prelude.{Result, Ok, Err, IsOk}
+use Rattle.answer.specs.Told.{told}
+use Rattle.answer.specs.declared.Refused.{Refused}
+use Rattle.reader.specs.Read.{row_from}
 use Rattle.answer.specs.Outcome.{Outcome, answer, refuse, need, mapped}
 use Rattle.answer.specs.Filled.{amount, filled}
 use Rattle.answer.specs.Window.{bytes_at, window_at, fits}
@@ -20,7 +25,8 @@ use Rattle.answer.proofs.Tests.{both_hold}
 use Rattle.answer.proofs.Parts.{all_that_is_left}
 use Rattle.answer.proofs.Writers.{put_behind}
 use Rattle.answer.proofs.Windows.{fitting_is_inside}
-use Rattle.dot_lines.specs.Line.{counted_from, line_bytes, line, lines, line_into}
+use Rattle.std.specs.List.{range_with_len}
+use Rattle.dot_lines.specs.Line.{line_bytes, line, lines, line_into}
 use Rattle.dot_lines.proofs.Bytes.{line_long}
 use Rattle.dot_lines.proofs.Lines.{AllWide, wide_both, lines_of_both, lines_long}
 use Rattle.reader.specs.declared.Kind.{Kind}
@@ -29,26 +35,13 @@ use Rattle.reader.specs.Demand3.{shown_bytes}
 use Rattle.reader.proofs.Found.{row_inside}
 use Rattle.reader.proofs.Rows.{reads_the_rows}
 use Rattle.plotter.specs.Strip.{each_of, windows_of, draw_into}
-use Rattle.plotter.specs.Private.{end_of, Starts}
-use Rattle.plotter.proofs.Going.{NextRow, Going, nothing_found, one_found, all_found, one_missing, rest_is}
+use Rattle.plotter.specs.Private.{end_of, judged}
+use Rattle.plotter.proofs.Going.{Starts, NextRow, Going, next_refused, nothing_found, one_found, all_found, one_missing, rest_is}
 use Rattle.plotter.proofs.Windows.{all_fit, fits_the_middle, rows_of_windows}
 
 -- the bytes of a row's window
 abbrev pub window_bytes : List ℕ → ℕ → ℕ → Shown → List ℕ
 window_bytes f a c row = shown_bytes f (window_at a c row)
-
--- maps of maps and of lists end to end
-pub map_both : {A B : Type 0} (g : A → B) (xs ys : List A) → map g (xs ++ ys) ≡ map g xs ++ map g ys
-map_both g [] ys = refl
-map_both g (x ∷ xs) ys = ap (λ (zs : List _). g x ∷ zs) (map_both g xs ys)
-
-pub map_twice : {A B C : Type 0} (g : A → B) (h : B → C) (xs : List A) → map h (map g xs) ≡ map (λ x. h (g x)) xs
-map_twice g h [] = refl
-map_twice g h (x ∷ xs) = ap (λ (zs : List _). h (g x) ∷ zs) (map_twice g h xs)
-
-pub length-map : {A B : Type 0} (g : A → B) (xs : List A) → length (map g xs) ≡ length xs
-length-map g [] = refl
-length-map g (x ∷ xs) = ap suc (length-map g xs)
 
 one_line : (y : ℕ) (window : List ℕ) → lines y (window ∷ []) ≡ line y window
 one_line y window = append-nil (line y window)
@@ -64,26 +57,26 @@ bytes_wide f place c h = length-take-le c (drop place f) (omega (arith, length-d
 
 -- the windows of rows that are all there are all in the file, and as many as were asked for
 module _ (kind : Kind) (f : List ℕ) (a c : ℕ) where
-  pub each_many : (n first : ℕ) (rows : List Shown) → each_of (row_of kind f) (counted_from first n) ≡ answer rows → length rows ≡ n
+  pub each_many : (n first : ℕ) (rows : List Shown) → each_of (row_of kind f) (range_with_len first n) ≡ answer rows → length rows ≡ n
   each_many zero first rows e = ap length (sym (answer_injective e))
   each_many (suc n) first rows e =
-      let (row, is_row, more) = first_answered (row_of kind f first) (λ r. mapped (λ rest. r ∷ rest) (each_of (row_of kind f) (counted_from (suc first) n))) rows e in
-      let (rest, left, are) = mapped_answer (λ rest. row ∷ rest) (each_of (row_of kind f) (counted_from (suc first) n)) rows more in
-      ap length (sym are) ∙ ap suc (each_many n (suc first) rest left)
+      let (row, is_row, more) = first_answered (row_of kind f first) (λ r. mapped (λ rest. r ∷ rest) (each_of (row_of kind f) (range_with_len (first + 1) n))) rows e in
+      let (rest, left, are) = mapped_answer (λ rest. row ∷ rest) (each_of (row_of kind f) (range_with_len (first + 1) n)) rows more in
+      ap length (sym are) ∙ ap suc (each_many n (first + 1) rest left)
 
-  pub each_wide : (n first : ℕ) (rows : List Shown) → each_of (row_of kind f) (counted_from first n) ≡ answer rows → all_fit a c rows ≡ true → AllWide c (map (window_bytes f a c) rows)
+  pub each_wide : (n first : ℕ) (rows : List Shown) → each_of (row_of kind f) (range_with_len first n) ≡ answer rows → all_fit a c rows ≡ true → AllWide c (map (window_bytes f a c) rows)
   each_wide zero first rows e fit = subst (λ (rs : List Shown). AllWide c (map (window_bytes f a c) rs)) (answer_injective e) tt
   each_wide (suc n) first rows e fit =
-      let (row, is_row, more) = first_answered (row_of kind f first) (λ r. mapped (λ rest. r ∷ rest) (each_of (row_of kind f) (counted_from (suc first) n))) rows e in
-      let (rest, left, are) = mapped_answer (λ rest. row ∷ rest) (each_of (row_of kind f) (counted_from (suc first) n)) rows more in
+      let (row, is_row, more) = first_answered (row_of kind f first) (λ r. mapped (λ rest. r ∷ rest) (each_of (row_of kind f) (range_with_len (first + 1) n))) rows e in
+      let (rest, left, are) = mapped_answer (λ rest. row ∷ rest) (each_of (row_of kind f) (range_with_len (first + 1) n)) rows more in
       let both = both_hold (fits row.part.count a c) (all_fit a c rest) (ap (all_fit a c) are ∙ fit) in
       let inside = window_inside f row a c (row_inside kind f first row (reads_the_rows kind f first ∙ is_row)) both.0 in
-      subst (λ (rs : List Shown). AllWide c (map (window_bytes f a c) rs)) are (bytes_wide f (row.part.place + a) c inside, each_wide n (suc first) rest left both.1)
+      subst (λ (rs : List Shown). AllWide c (map (window_bytes f a c) rs)) are (bytes_wide f (row.part.place + a) c inside, each_wide n (first + 1) rest left both.1)
 
 -- the lines of a strip that is drawn
 pub record Drawn (room : ℕ) (kind : Kind) (f : List ℕ) (first n a c : ℕ) (windows : List Shown) : Type 0 where
   pub rows : List Shown
-  pub found : each_of (row_of kind f) (counted_from first n) ≡ answer rows
+  pub found : each_of (row_of kind f) (range_with_len first n) ≡ answer rows
   pub many : length rows ≡ n
   pub wide : AllWide c (map (window_bytes f a c) rows)
   pub drawn : lines 0 (map (window_bytes f a c) rows) ≡ lines 0 (map (shown_bytes f) windows)
@@ -98,14 +91,14 @@ are_drawn room kind f first n a c windows all =
     let many = each_many kind f a c n first w.rows w.found in
     let wide = each_wide kind f a c n first w.rows w.found w.fit in
     let drawn : lines 0 (map (window_bytes f a c) w.rows) ≡ lines 0 (map (shown_bytes f) windows) =
-    ap (lines 0) (sym (map_twice (window_at a c) (shown_bytes f) w.rows) ∙ ap (map (shown_bytes f)) w.are) in
+    ap (lines 0) (sym (map-map (shown_bytes f) (window_at a c) w.rows) ∙ ap (map (shown_bytes f)) w.are) in
     record {
       rows = w.rows;
       found = w.found;
       many = many;
       wide = wide;
       drawn = drawn;
-      long = lines_long c 0 (map (window_bytes f a c) w.rows) wide ∙ ap (λ (k : ℕ). k * line_bytes c) (length-map (window_bytes f a c) w.rows ∙ many);
+      long = lines_long c 0 (map (window_bytes f a c) w.rows) wide ∙ ap (λ (k : ℕ). k * line_bytes c) (length-map w.rows (window_bytes f a c) ∙ many);
       called = λ b e.
           after_answer (windows_of (row_of kind f) first n a c) (λ ws. need (leb (n * line_bytes c) room) 8 (answer (lines 0 (map (shown_bytes f) ws)))) windows all
           ∙ ap₂ (λ (t : Bool) (l : List ℕ). need t 8 (answer l)) e (sym drawn);
@@ -146,7 +139,7 @@ module _ (kind : Kind) (f : List ℕ) (first n a c : ℕ) (old : List ℕ) where
 
   module _ (out : List ℕ) (from y : ℕ) (d : Drawing kind f first n a c old out from y) where
     drawn_long : length (lines 0 (map (window_bytes f a c) d.rows)) ≡ y * line_bytes c
-    drawn_long = lines_long c 0 (map (window_bytes f a c) d.rows) d.wide ∙ ap (λ (k : ℕ). k * line_bytes c) (length-map (window_bytes f a c) d.rows ∙ d.going.many)
+    drawn_long = lines_long c 0 (map (window_bytes f a c) d.rows) d.wide ∙ ap (λ (k : ℕ). k * line_bytes c) (length-map d.rows (window_bytes f a c) ∙ d.going.many)
 
     pub lines_fit : n * line_bytes c ≤ length old → y * line_bytes c ≤ length old
     lines_fit room = le_trans (mul-le-mul_right (line_bytes c) d.going.within) room
@@ -174,7 +167,7 @@ module _ (kind : Kind) (f : List ℕ) (first n a c : ℕ) (old : List ℕ) where
         lines_of_both 0 (map (window_bytes f a c) d.rows) (window ∷ [])
         ∙ ap (λ (l : List ℕ). lines 0 (map (window_bytes f a c) d.rows) ++ l)
         (one_line (0 + length (map (window_bytes f a c) d.rows)) window
-        ∙ ap (λ (k : ℕ). line k window) {x = 0 + length (map (window_bytes f a c) d.rows)} {y = y} (omega (arith, length-map (window_bytes f a c) d.rows, d.going.many)))
+        ∙ ap (λ (k : ℕ). line k window) {x = 0 + length (map (window_bytes f a c) d.rows)} {y = y} (omega (arith, length-map d.rows (window_bytes f a c), d.going.many)))
 
     pub one_drawn : y < n → (next : Shown) → NextRow kind f (first + y) next → fits next.part.count a c ≡ true → (after : List ℕ)
         → after ≡ take (y * line_bytes c) out ++ line y (bytes_at f (next.part.place + a) c) ++ drop (y * line_bytes c + line_bytes c) out
@@ -183,7 +176,7 @@ module _ (kind : Kind) (f : List ℕ) (first n a c : ℕ) (old : List ℕ) where
         let window = bytes_at f (next.part.place + a) c in
         let same : window_bytes f a c r.row ≡ window = ap (λ (p : Part). bytes_at f (p.place + a) c) r.part in
         let all : map (window_bytes f a c) (d.rows ++ r.row ∷ []) ≡ map (window_bytes f a c) d.rows ++ window ∷ [] =
-        map_both (window_bytes f a c) d.rows (r.row ∷ []) ∙ ap (λ (w : List ℕ). map (window_bytes f a c) d.rows ++ w ∷ []) same in
+        map-append (window_bytes f a c) d.rows (r.row ∷ []) ∙ ap (λ (w : List ℕ). map (window_bytes f a c) d.rows ++ w ∷ []) same in
         record {
           rows = d.rows ++ r.row ∷ [];
           going = one_found kind f first n y from d.rows d.going more next r;
@@ -199,13 +192,17 @@ module _ (kind : Kind) (f : List ℕ) (first n a c : ℕ) (old : List ℕ) where
       pub next_fits : y < n → (row : Shown) → row_of kind f (first + y) ≡ answer row → fits row.part.count a c ≡ true
       next_fits more row is_row =
           let w = rows_of_windows a c (row_of kind f) first n windows all in
-          let (rest, left, are) = mapped_answer (λ rest. d.rows ++ row ∷ rest) (each_of (row_of kind f) (counted_from (first + (y + 1)) (n - (y + 1)))) w.rows (sym (rest_is kind f first n y from d.rows d.going more row is_row) ∙ w.found) in
+          let (rest, left, are) = mapped_answer (λ rest. d.rows ++ row ∷ rest) (each_of (row_of kind f) (range_with_len (first + (y + 1)) (n - (y + 1)))) w.rows (sym (rest_is kind f first n y from d.rows d.going more row is_row) ∙ w.found) in
           fits_the_middle a c d.rows rest row (ap (all_fit a c) are ∙ w.fit)
 
       pub none_missing : y < n → (m p : ℕ) → row_of kind f (first + y) ≡ refuse m p → ⊥
       none_missing more m p e =
           let w = rows_of_windows a c (row_of kind f) first n windows all in
           answer_is_no_refusal (sym w.found ∙ one_missing kind f first n y from d.rows d.going more m p e)
+
+      pub is_there : y < n → (r : Result Shown Refused) → told r ≡ row_from kind f from → IsOk r
+      is_there more (Ok row) e = search rules
+      is_there more (Err why) e = absurd (none_missing more _ _ (next_refused kind f (first + y) from d.going.next _ _ (sym e)))
 
       -- all lines drawn
       pub all_drawn : n ≤ y → n * line_bytes c ≤ length old → out ≡ filled (draw_into (length old) f (row_of kind f) first n a c 0) old
@@ -219,15 +216,15 @@ module _ (kind : Kind) (f : List ℕ) (first n a c : ℕ) (old : List ℕ) where
 
 -- what the strip is once its rows are judged: refused as they are, refused for want of room, or written
 module _ (room : ℕ) (kind : Kind) (f : List ℕ) (first n a c : ℕ) where
-  pub windows_refused : (m p : ℕ) → mapped length (windows_of (row_of kind f) first n a c) ≡ refuse m p → draw_into room f (row_of kind f) first n a c 0 ≡ refuse m p
+  pub windows_refused : (m p : ℕ) → judged (windows_of (row_of kind f) first n a c) ≡ refuse m p → draw_into room f (row_of kind f) first n a c 0 ≡ refuse m p
   unfolding draw_into
   windows_refused m p e =
       after_refusal (windows_of (row_of kind f) first n a c) (λ ws. need (leb (n * line_bytes c) room) 8 (answer (lines 0 (map (shown_bytes f) ws)))) m p
-      (refused_first (windows_of (row_of kind f) first n a c) length e)
+      (refused_first (windows_of (row_of kind f) first n a c) (λ ws. tt) e)
 
-  pub windows_there : (many : ℕ) → mapped length (windows_of (row_of kind f) first n a c) ≡ answer many → (windows : List Shown) × (windows_of (row_of kind f) first n a c ≡ answer windows)
-  windows_there many e =
-      let (windows, all, counted) = mapped_answer length (windows_of (row_of kind f) first n a c) many e in
+  pub windows_there : judged (windows_of (row_of kind f) first n a c) ≡ answer tt → (windows : List Shown) × (windows_of (row_of kind f) first n a c ≡ answer windows)
+  windows_there e =
+      let (windows, all, is) = mapped_answer (λ ws. tt) (windows_of (row_of kind f) first n a c) tt e in
       (windows, all)
 
   module _ (windows : List Shown) (all : windows_of (row_of kind f) first n a c ≡ answer windows) where

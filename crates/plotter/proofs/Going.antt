@@ -8,16 +8,22 @@ use Rattle.answer.specs.Outcome.{Outcome, answer, refuse, and_then, mapped}
 use Rattle.answer.specs.declared.Part.{Part}
 use Rattle.answer.specs.declared.Shown.{Shown}
 use Rattle.answer.proofs.Outcomes.{after_answer, after_refusal, and_then_agrees, mapped_answer, mapped_same, mapped_twice, refused_first}
-use Rattle.dot_lines.specs.Line.{counted_from}
+use Rattle.std.specs.List.{range_with_len}
 use Rattle.reader.specs.declared.Kind.{Kind}
 use Rattle.reader.specs.declared.Kind.TheVariants.{Labelled, Waveform, Bursts}
-use Rattle.reader.specs.Rows.{row_of}
+use Rattle.reader.specs.Rows.{row_parts, row_of}
 use Rattle.reader.specs.Read.{row_from, kept_of}
 use Rattle.reader.proofs.Found.{row_inside}
 use Rattle.reader.proofs.Rows.{reads_the_rows}
 use Rattle.reader.proofs.NextRow.{goes_on}
 use Rattle.plotter.specs.Strip.{each_of}
-use Rattle.plotter.specs.Private.{end_of, Starts}
+use Rattle.plotter.specs.Private.{end_of}
+
+-- the file is accepted, and going on from a place comes to row k
+pub record Starts (kind : Kind) (f : List ℕ) (k from : ℕ) : Type 0 where
+  pub rows : List Shown
+  pub accepted : row_parts kind f ≡ answer rows
+  pub comes : row_from kind f from ≡ mapped (kept_of kind) (row_of kind f k)
 
 -- what going on keeps of a row has the row's bytes
 kept_part : (kind : Kind) (row : Shown) → (kept_of kind row).part ≡ row.part
@@ -58,12 +64,12 @@ module _ (kind : Kind) (f : List ℕ) (k from : ℕ) (s : Starts kind f k from) 
 pub record Going (kind : Kind) (f : List ℕ) (first n found from : ℕ) (rows : List Shown) : Type 0 where
   pub within : found ≤ n
   pub many : length rows ≡ found
-  pub so_far : each_of (row_of kind f) (counted_from first n) ≡ mapped (λ rest. rows ++ rest) (each_of (row_of kind f) (counted_from (first + found) (n - found)))
+  pub so_far : each_of (row_of kind f) (range_with_len first n) ≡ mapped (λ rest. rows ++ rest) (each_of (row_of kind f) (range_with_len (first + found) (n - found)))
   pub next : Starts kind f (first + found) from
 
 module _ (kind : Kind) (f : List ℕ) (first n : ℕ) where
   abbrev each : ℕ → ℕ → Outcome (List Shown)
-  each k m = each_of (row_of kind f) (counted_from k m)
+  each k m = each_of (row_of kind f) (range_with_len k m)
 
   pub nothing_found : (from : ℕ) → Starts kind f first from → Going kind f first n 0 from []
   nothing_found from s = record {
@@ -78,7 +84,7 @@ module _ (kind : Kind) (f : List ℕ) (first n : ℕ) where
     one_less : found < n → each (first + found) (n - found) ≡ and_then (row_of kind f (first + found)) (λ row. mapped (λ rest. row ∷ rest) (each (first + (found + 1)) (n - (found + 1))))
     one_less more =
         ap (each (first + found)) {x = n - found} {y = suc (n - (found + 1))} (omega arith)
-        ∙ ap (λ (k : ℕ). and_then (row_of kind f (first + found)) (λ row. mapped (λ rest. row ∷ rest) (each k (n - (found + 1))))) {x = suc (first + found)} {y = first + (found + 1)} (omega arith)
+        ∙ ap (λ (k : ℕ). and_then (row_of kind f (first + found)) (λ row. mapped (λ rest. row ∷ rest) (each k (n - (found + 1))))) {x = first + found + 1} {y = first + (found + 1)} (omega arith)
 
     pub rest_is : found < n → (row : Shown) → row_of kind f (first + found) ≡ answer row
         → each first n ≡ mapped (λ rest. rows ++ row ∷ rest) (each (first + (found + 1)) (n - (found + 1)))

@@ -1,6 +1,7 @@
 -- Where a strip starts: what is known of the file then, and what the strip is where no start is found, where it has no rows and where it is
 -- drawn.
-use Prim.Native.Nat.{ℕ, zero, suc, ◌*◌, ◌<◌}
+use Rattle.std.proofs.Common.{rules}
+use Prim.Native.Nat.{ℕ, zero, suc, ◌+◌, ◌*◌, ◌-◌, ◌≤◌, ◌<◌}
 use native.Mathlib.Nat.{not-suc-le-zero, zero-mul}
 use native.Mathlib.Numerals.{add-one}
 use native.Mathlib.Omega.{arith}
@@ -9,14 +10,18 @@ use mathlib.Core.Bool.{Bool}
 use mathlib.Core.List.{List, [], ◌∷◌, map}
 use lib.ListN.{length}
 use lib.Dec.{leb}
-use borrow.Author.Tests.{le-leb}
+use borrow.Author.Tests.{le-leb, eqb-true}
+use Rattle.std.specs.Prelude.{IsTrue}
+use Rattle.reader.specs.Read.{find_row}
+use Rattle.reader.proofs.Rows.{reads_the_rows}
 use Rattle.answer.specs.Outcome.{Outcome, answer, refuse, need, mapped}
 use Rattle.answer.specs.Nth.{nth}
 use Rattle.answer.specs.Filled.{Writes}
 use Rattle.answer.specs.declared.Shown.{Shown}
 use Rattle.answer.proofs.Outcomes.{after_answer, after_refusal, first_answered, and_then_agrees, mapped_answer, refused_first, answer_is_no_refusal}
 use Rattle.answer.proofs.Writers.{refused_writes_nothing, written_to_the_front}
-use Rattle.dot_lines.specs.Line.{counted_from, line_bytes, lines}
+use Rattle.std.specs.List.{range_with_len}
+use Rattle.dot_lines.specs.Line.{line_bytes, lines}
 use Rattle.reader.specs.declared.Kind.{Kind}
 use Rattle.reader.specs.Rows.{row_parts, check_file, row_of}
 use Rattle.reader.specs.Read.{row_from, beginning, kept_of}
@@ -24,7 +29,8 @@ use Rattle.reader.specs.Demand3.{shown_bytes}
 use Rattle.reader.proofs.Demand2.{demand_2}
 use Rattle.reader.proofs.NextRow.{goes_on}
 use Rattle.plotter.specs.Strip.{each_of, windows_of, draw_into, strip_into}
-use Rattle.plotter.specs.Private.{end_of, start_of, Starts}
+use Rattle.plotter.specs.Private.{end_of, start_of, is_answer, is_start}
+use Rattle.plotter.proofs.Going.{Starts}
 use Rattle.plotter.proofs.Judging.{row_refused}
 
 module _ (kind : Kind) (f : List ℕ) where
@@ -54,6 +60,25 @@ module _ (kind : Kind) (f : List ℕ) where
         comes = subst (λ (m : ℕ). row_from kind f from ≡ mapped (kept_of kind) (row_of kind f m)) (add-one k) (ap (row_from kind f) (sym is) ∙ (goes_on kind f rows accepted).next k row found);
       }
 
+  -- the start of a row that is not the first one is the end of the row before it
+  pub start_behind : (first : ℕ) → 1 ≤ first → start_of kind f first ≡ mapped end_of (find_row kind f (first - 1))
+  start_behind first some =
+      ap (start_of kind f) {x = first} {y = suc (first - 1)} (omega arith)
+      ∙ ap (mapped end_of) (sym (reads_the_rows kind f (first - 1)))
+
+  -- what is known of a start
+  pub known_start : (first from : ℕ) → IsTrue (is_start kind f first from) → Starts kind f first from
+  unfolding is_start
+  known_start first from h = go (start_of kind f first) refl h
+    where
+      go : (o : Outcome ℕ) → start_of kind f first ≡ o → IsTrue (is_answer o from) → Starts kind f first from
+      go (answer n) e t = starts first from (e ∙ ap answer (eqb-true n from t))
+      go (refuse m p) e t = search rules
+
+  pub is_a_start : (first from : ℕ) → start_of kind f first ≡ answer from → IsTrue (is_start kind f first from)
+  unfolding is_start
+  is_a_start first from e = rw e (search rules)
+
   -- the row behind one that is missing is missing
   none_behind : (rows : List Shown) (k m p : ℕ) → nth rows k ≡ refuse m p → nth rows (suc k) ≡ refuse m p
   none_behind [] k m p e = e
@@ -78,9 +103,9 @@ module _ (kind : Kind) (f : List ℕ) where
         after_refusal (windows_of (row_of kind f) first n a c) (λ windows. need (leb (n * line_bytes c) room) 8 (answer (lines 0 (map (shown_bytes f) windows)))) m p
         (row_refused kind f first n a c m p (each n some))
       where
-        each : (i : ℕ) → 0 < i → each_of (row_of kind f) (counted_from first i) ≡ refuse m p
+        each : (i : ℕ) → 0 < i → each_of (row_of kind f) (range_with_len first i) ≡ refuse m p
         each zero h = absurd (not-suc-le-zero h)
-        each (suc i) h = after_refusal (row_of kind f first) (λ row. mapped (λ rest. row ∷ rest) (each_of (row_of kind f) (counted_from (suc first) i))) m p e
+        each (suc i) h = after_refusal (row_of kind f first) (λ row. mapped (λ rest. row ∷ rest) (each_of (row_of kind f) (range_with_len (first + 1) i))) m p e
 
   -- no start: the strip is refused so
   pub no_start : (room first n a c : ℕ) → 0 < n → (m p : ℕ) → start_of kind f first ≡ refuse m p → strip_into room kind f first n a c ≡ refuse m p

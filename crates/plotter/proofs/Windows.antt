@@ -8,7 +8,7 @@ use Rattle.answer.specs.Window.{fits, window_at, window_in}
 use Rattle.answer.specs.declared.Shown.{Shown}
 use Rattle.answer.proofs.Outcomes.{after_answer, first_answered, passed, answer_injective}
 use Rattle.answer.proofs.Tests.{both_hold}
-use Rattle.dot_lines.specs.Line.{counted_from}
+use Rattle.std.specs.List.{range_with_len}
 use Rattle.plotter.specs.Strip.{each_of, windows_of}
 
 -- the window fits each of the rows
@@ -52,21 +52,21 @@ module _ (a c : ℕ) where
 
   module _ (row : ℕ → Outcome Shown) (first n : ℕ) where
     -- the windows of rows that are all there
-    pub windows_of_rows : (rows : List Shown) → each_of row (counted_from first n) ≡ answer rows
+    pub windows_of_rows : (rows : List Shown) → each_of row (range_with_len first n) ≡ answer rows
         → windows_of row first n a c ≡ need (all_fit a c rows) 7 (answer (map (window_at a c) rows))
     unfolding windows_of
-    windows_of_rows rows e = after_answer (each_of row (counted_from first n)) (each_of (window_in a c)) rows e ∙ windows_are rows
+    windows_of_rows rows e = after_answer (each_of row (range_with_len first n)) (each_of (window_in a c)) rows e ∙ windows_are rows
 
     -- and the rows of windows that are all there
     pub record Windows (windows : List Shown) : Type 0 where
       pub rows : List Shown
-      pub found : each_of row (counted_from first n) ≡ answer rows
+      pub found : each_of row (range_with_len first n) ≡ answer rows
       pub fit : all_fit a c rows ≡ true
       pub are : map (window_at a c) rows ≡ windows
 
     pub rows_of_windows : (windows : List Shown) → windows_of row first n a c ≡ answer windows → Windows windows
     unfolding windows_of
     rows_of_windows windows e =
-        let (rows, found, fitted) = first_answered (each_of row (counted_from first n)) (each_of (window_in a c)) windows e in
+        let (rows, found, fitted) = first_answered (each_of row (range_with_len first n)) (each_of (window_in a c)) windows e in
         let (fit, are) = passed 0 (all_fit a c rows) 7 (answer (map (window_at a c) rows)) windows (sym (windows_are rows) ∙ fitted) in
         record { rows = rows; found = found; fit = fit; are = answer_injective are }

@@ -1,11 +1,10 @@
 -- Cited only by promises of private functions: from where going on comes to a row.
-use Rattle.std.specs.Prelude.{ℕ, zero, suc, ◌+◌, ◌≡◌, List}
-use Rattle.answer.specs.Outcome.{Outcome, answer, mapped}
+use Rattle.std.specs.Prelude.{ℕ, zero, suc, ◌+◌, ◌==◌, Bool, false, List}
+use Rattle.answer.specs.Outcome.{Outcome, answer, refuse, mapped}
 use Rattle.answer.specs.declared.Shown.{Shown}
-use Rattle.reader.specs.Rows.{row_parts, check_file, row_of}
-use Rattle.reader.specs.Read.{row_from, beginning, kept_of}
+use Rattle.reader.specs.Rows.{check_file, row_of}
+use Rattle.reader.specs.Read.{beginning}
 use Rattle.reader.specs.declared.Kind.{Kind}
-use Rattle.plotter.specs.Strip.{windows_of}
 
 -- the end of a row's bytes
 abbrev pub end_of : Shown → ℕ
@@ -16,13 +15,14 @@ abbrev pub start_of : Kind → List ℕ → ℕ → Outcome ℕ
 start_of kind f zero = mapped (λ rows. beginning kind) (check_file kind f)
 start_of kind f (suc k) = mapped end_of (row_of kind f k)
 
--- the file is accepted, and going on from a place comes to row k
-pub record Starts (kind : Kind) (f : List ℕ) (k from : ℕ) : Type 0 where
-  pub rows : List Shown
-  pub accepted : row_parts kind f ≡ answer rows
-  pub comes : row_from kind f from ≡ mapped (kept_of kind) (row_of kind f k)
+-- whether going on to a row starts at this place
+abbrev pub is_answer : Outcome ℕ → ℕ → Bool
+is_answer (answer m) n = m == n
+is_answer (refuse m p) n = false
 
--- all rows of a strip are there and the window fits them, whatever number its first row has
-abbrev pub AllThere : Kind → List ℕ → (start rows a c : ℕ) → Type 0
-AllThere kind f start rows a c =
-    (first : ℕ) → Starts kind f first start → (windows : List Shown) × (windows_of (row_of kind f) first rows a c ≡ answer windows)
+unfoldable pub is_start : Kind → List ℕ → ℕ → ℕ → Bool
+is_start kind f first start = is_answer (start_of kind f first) start
+
+-- whether the windows of a strip are all there, or its refusal
+abbrev pub judged : Outcome (List Shown) → Outcome (Unit {0})
+judged windows = mapped (λ _. tt) windows

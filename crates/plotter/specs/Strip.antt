@@ -4,7 +4,8 @@ use Rattle.std.specs.Prelude.{ℕ, ◌*◌, List, [], ◌∷◌, map, leb}
 use Rattle.answer.specs.Outcome.{Outcome, answer, need, and_then, mapped}
 use Rattle.answer.specs.Window.{window_in}
 use Rattle.answer.specs.declared.Shown.{Shown}
-use Rattle.dot_lines.specs.Line.{counted_from, line_bytes, lines}
+use Rattle.std.specs.List.{range_with_len}
+use Rattle.dot_lines.specs.Line.{line_bytes, lines}
 use Rattle.reader.specs.Rows.{check_file, row_of}
 use Rattle.reader.specs.Demand3.{shown_bytes}
 use Rattle.reader.specs.declared.Kind.{Kind}
@@ -17,7 +18,7 @@ each_of f (x ∷ xs) = and_then (f x) (λ y. mapped (λ ys. y ∷ ys) (each_of f
 -- the windows of n rows from a first one on: the refusal of the first row that has one, "6 if any row of the strip is missing, then 7 if it
 -- fails to fit some row"
 unfoldable pub windows_of : (ℕ → Outcome Shown) → ℕ → ℕ → ℕ → ℕ → Outcome (List Shown)
-windows_of row first n a c = and_then (each_of row (counted_from first n)) (each_of (window_in a c))
+windows_of row first n a c = and_then (each_of row (range_with_len first n)) (each_of (window_in a c))
 
 -- their lines, the first of them line y, "then 8"
 unfoldable pub draw_into : ℕ → List ℕ → (ℕ → Outcome Shown) → ℕ → ℕ → ℕ → ℕ → ℕ → Outcome (List ℕ)

@@ -1,5 +1,5 @@
 -- The byte behind a dot, by the tests of the code, and a row whose number passes 64 bits.
-use Prim.Native.Nat.{ℕ, ◌+◌, ◌≤◌}
+use Prim.Native.Nat.{ℕ, ◌+◌, ◌≤◌, ◌<◌}
 use native.Mathlib.Omega.{arith}
 use mathlib.Core.Path.{◌≡◌, refl, ◌∙◌, sym, ap}
 use mathlib.Core.Bool.{Bool, true, false, ◌&&◌}
@@ -17,6 +17,8 @@ use Rattle.reader.specs.Rows.{row_parts, check_file, row_of}
 use Rattle.reader.specs.Read.{find_row, read_row}
 use Rattle.reader.proofs.Rows.{reads_the_rows}
 use Rattle.reader.proofs.Demand2.{demand_2}
+use Rattle.reader.proofs.Found.{row_inside}
+use Rattle.plotter.proofs.Drawing.{window_inside}
 use Rattle.plotter.proofs.Starting.{checked}
 use Rattle.trace.specs.Behind.{dot_from, dot_behind}
 
@@ -36,6 +38,10 @@ module _ (kind : Kind) (f : List ℕ) (first a c x y : ℕ) where
       go true false = refl
       go false true = refl
       go false false = refl
+
+  -- the byte behind a dot lies in the file
+  pub byte_inside : (row : Shown) → find_row kind f (first + y) ≡ answer row → fits row.part.count a c ≡ true → x < c → row.part.place + a + x < length f
+  byte_inside row found fit column = omega (arith, window_inside f row a c (row_inside kind f (first + y) row found) fit, column)
 
   pub dot_refused : (m p : ℕ) → find_row kind f (first + y) ≡ refuse m p → dot_behind kind f first a c x y ≡ refuse m p
   unfolding dot_behind read_row

@@ -6,7 +6,7 @@ use native.Mathlib.Omega.{arith}
 use mathlib.Core.Path.{◌≡◌, refl, ◌∙◌, sym, ap, subst}
 use mathlib.Core.Bool.{Bool, true, cond}
 use mathlib.Core.List.{List, [], ◌∷◌, map}
-use lib.ListN.{length, get_or, drop}
+use lib.ListN.{length, get_or, drop, length-map}
 use lib.Seq.{get_or-take, get_or-drop}
 use lib.Dec.{leb}
 use borrow.Author.Tests.{lt-ltb, le-ltb}
@@ -19,7 +19,8 @@ use Rattle.answer.proofs.Windows.{fitting_is_inside}
 use Rattle.dots.specs.Tone.{tone}
 use Rattle.dots.specs.Dot.{is_dot, bit, total, dots_in_tile}
 use Rattle.dots.proofs.Tile.{same_total, tile_law}
-use Rattle.dot_lines.specs.Line.{counted_from, line_bytes, dot_bit, line, lines, bit_in}
+use Rattle.std.specs.List.{range_with_len}
+use Rattle.dot_lines.specs.Line.{line_bytes, dot_bit, line, lines, bit_in}
 use Rattle.dot_lines.proofs.Bytes.{bit_of_line}
 use Rattle.dot_lines.proofs.Lines.{byte_of_lines}
 use Rattle.reader.specs.declared.Kind.{Kind}
@@ -31,7 +32,7 @@ use Rattle.plotter.specs.Strip.{each_of, windows_of, draw_into, strip_into}
 use Rattle.trace.specs.Behind.{dot_from, dot_behind}
 use Rattle.trace.specs.Tracing.{StandsBehind, Traced}
 use Rattle.plotter.proofs.Windows.{all_fit, rows_of_windows}
-use Rattle.plotter.proofs.Drawing.{window_bytes, length-map, window_inside, bytes_wide, each_many, each_wide, are_drawn}
+use Rattle.plotter.proofs.Drawing.{window_bytes, window_inside, bytes_wide, each_many, each_wide, are_drawn}
 use Rattle.trace.proofs.OneDot.{dot_of_row}
 
 -- one of the rows of a strip, and its window
@@ -42,22 +43,22 @@ record RowOfStrip (kind : Kind) (f : List ℕ) (a c k : ℕ) (window : List ℕ)
   pub is_window : window ≡ window_bytes f a c row
 
 module _ (kind : Kind) (f : List ℕ) (a c : ℕ) where
-  row_of_strip : (n first : ℕ) (rows : List Shown) → each_of (row_of kind f) (counted_from first n) ≡ answer rows → all_fit a c rows ≡ true
+  row_of_strip : (n first : ℕ) (rows : List Shown) → each_of (row_of kind f) (range_with_len first n) ≡ answer rows → all_fit a c rows ≡ true
       → (k : ℕ) → k < n → RowOfStrip kind f a c (first + k) (get_or (map (window_bytes f a c) rows) k [])
   row_of_strip zero first rows e fit k h = absurd (not-suc-le-zero h)
   row_of_strip (suc n) first rows e fit k h =
-      let (row, is_row, more) = first_answered (row_of kind f first) (λ r. mapped (λ rest. r ∷ rest) (each_of (row_of kind f) (counted_from (suc first) n))) rows e in
-      let (rest, left, are) = mapped_answer (λ rest. row ∷ rest) (each_of (row_of kind f) (counted_from (suc first) n)) rows more in
+      let (row, is_row, more) = first_answered (row_of kind f first) (λ r. mapped (λ rest. r ∷ rest) (each_of (row_of kind f) (range_with_len (first + 1) n))) rows e in
+      let (rest, left, are) = mapped_answer (λ rest. row ∷ rest) (each_of (row_of kind f) (range_with_len (first + 1) n)) rows more in
       let both = both_hold (fits row.part.count a c) (all_fit a c rest) (ap (all_fit a c) are ∙ fit) in
       subst (λ (rs : List Shown). RowOfStrip kind f a c (first + k) (get_or (map (window_bytes f a c) rs) k [])) are
-      (go k h row is_row rest both.0 (λ i g. row_of_strip n (suc first) rest left both.1 i g))
+      (go k h row is_row rest both.0 (λ i g. row_of_strip n (first + 1) rest left both.1 i g))
     where
       go : (i : ℕ) → i < suc n → (row : Shown) → row_of kind f first ≡ answer row → (rest : List Shown) → fits row.part.count a c ≡ true
-          → ((j : ℕ) → j < n → RowOfStrip kind f a c (suc first + j) (get_or (map (window_bytes f a c) rest) j []))
+          → ((j : ℕ) → j < n → RowOfStrip kind f a c ((first + 1) + j) (get_or (map (window_bytes f a c) rest) j []))
           → RowOfStrip kind f a c (first + i) (get_or (map (window_bytes f a c) (row ∷ rest)) i [])
       go zero g row is_row rest fits_it others = record { row = row; is_row = ap (row_of kind f) {x = first + 0} {y = first} (omega arith) ∙ is_row; fit = fits_it; is_window = refl }
       go (suc i) g row is_row rest fits_it others =
-          subst (λ (m : ℕ). RowOfStrip kind f a c m (get_or (map (window_bytes f a c) rest) i [])) {x = suc first + i} {y = first + suc i} (omega arith) (others i (omega arith))
+          subst (λ (m : ℕ). RowOfStrip kind f a c m (get_or (map (window_bytes f a c) rest) i [])) {x = (first + 1) + i} {y = first + suc i} (omega arith) (others i (omega arith))
 
 module _ (kind : Kind) (f : List ℕ) (first n a c : ℕ) where
   -- a column of a row's window
@@ -101,7 +102,7 @@ module _ (kind : Kind) (f : List ℕ) (first n a c : ℕ) where
     bit_is = bit_of_column ∙ ap (λ (v : ℕ). bit (is_dot (tone v) x y)) byte_is
 
   -- the lines of rows that are all there
-  module _ (rows : List Shown) (found : each_of (row_of kind f) (counted_from first n) ≡ answer rows) (fit : all_fit a c rows ≡ true) where
+  module _ (rows : List Shown) (found : each_of (row_of kind f) (range_with_len first n) ≡ answer rows) (fit : all_fit a c rows ≡ true) where
     abbrev windows : List (List ℕ)
     windows = map (window_bytes f a c) rows
 
@@ -119,7 +120,7 @@ module _ (kind : Kind) (f : List ℕ) (first n a c : ℕ) where
     bit_at x y column row =
         ap (λ (b : ℕ). b / 2 ^ (7 - x % 8) % 2)
         (byte_of_lines c 0 windows (each_wide kind f a c n first rows found fit) y (x / 8)
-        (omega (arith, length-map (window_bytes f a c) rows, each_many kind f a c n first rows found, row)) (omega (arith, column))
+        (omega (arith, length-map rows (window_bytes f a c), each_many kind f a c n first rows found, row)) (omega (arith, column))
         ∙ ap (λ (k : ℕ). get_or (line k (get_or windows y [])) (x / 8) 0) {x = 0 + y} {y = y} (omega arith))
         ∙ bit_of_line y (get_or windows y []) x (omega (arith, column, ap line_bytes (width y row)))
 

@@ -1,8 +1,7 @@
 -- Which byte stands behind a dot: the place of it, the byte, its tone, and whether the dot is set (document 02, item 7: "byte x of the window
 -- stands at column x", traced from column x of line y).
 use Rattle.std.specs.Prelude.{ℕ, ◌+◌, List, [], ◌∷◌, get_or, ltb}
-use Rattle.answer.specs.Outcome.{Outcome, answer, refuse, need, and_then}
-use Rattle.answer.specs.Refusal.{number_of}
+use Rattle.answer.specs.Outcome.{Outcome, answer, need, and_then}
 use Rattle.dots.specs.Tone as curve
 use Rattle.dots.specs.Dot.{is_dot, bit}
 use Rattle.reader.specs.Read.{read_row}

@@ -4,12 +4,11 @@
 #![tactic(auto)]
 
 ghost use Rattle.answer.specs.Told.{told};
-ghost use Rattle.std.specs.Prelude.{◌≡◌, ◌+◌, ◌<◌};
-ghost use Rattle.answer.specs.Outcome.{refuse};
+ghost use Rattle.std.specs.Prelude.{◌≡◌, ◌+◌};
 ghost use Rattle.reader.specs.Read.{find_row};
 ghost use Rattle.trace.specs.Behind.{dot_behind};
 
-use answer::{Refusal, Refused};
+use answer::{Refusal, Refused, Shown, Window};
 use reader::Kind;
 
 // A dot of a strip: the place in the file of the byte behind it, the byte, its tone, and whether the dot is
@@ -22,25 +21,18 @@ pub struct Dot {
     pub set: bool,
 }
 
-// The refusal of a row whose number passes 64 bits: a file has fewer rows, since they are counted in 64 bits.
-fn no_row(rows: usize) -> Result<Shown, Refused>
-    ensures { (told result ≡ refuse 6 0) × (rows < 18446744073709551616) }
-{
-    Err(Refused(Refusal::NoRow, 0))
-}
-
-// Row `first` + `y`, whole; 6 where that number is none of 64 bits, in a file that the check accepts.
+// Row `first` + `y`, whole; 6 where that number is none of 64 bits, in a file that the check accepts: a file has
+// fewer rows, since they are counted in 64 bits.
 fn row_of_line(kind: Kind, file: &[u8], first: usize, y: usize) -> Result<Shown, Refused>
     ensures { told result ≡ find_row kind file.now (first + y) }
 {
-    if 18446744073709551615 - first < y {
-        return match reader::check(kind, file) {
-            Ok(rows) => no_row(rows),
-            Err(Refused(why, place)) => Err(Refused(why, place)),
-        };
+    match first.checked_add(y) {
+        Some(k) => reader::whole_row(kind, file, k),
+        None => {
+            reader::check(kind, file)?;
+            Err(Refused(Refusal::NoRow, 0))
+        }
     }
-    let k = first + y;
-    reader::whole_row(kind, file, k)
 }
 
 // The dot at column `x` of line `y` of a strip that starts with row `first`.
@@ -48,29 +40,24 @@ pub fn behind(
     kind: Kind,
     file: &[u8],
     first: usize,
-    a: usize,
-    c: usize,
+    window: Window,
     x: usize,
     y: usize,
 ) -> Result<Dot, Refused>
-    ensures { told result ≡ dot_behind kind file.now first a c x y }
+    ensures { told result ≡ dot_behind kind file.now first window.first window.count x y }
 {
-    match row_of_line(kind, file, first, y) {
-        Ok(row) => {
-            if answer::window_fits(row.part.count, a, c) & (x < c) {
-                let place = row.part.place + a + x;
-                let byte = file[place];
-                let tone = dots::tone(byte);
-                let set = dots::is_dot(tone, x, y);
-                return Ok(Dot {
-                    place,
-                    byte,
-                    tone,
-                    set,
-                });
-            }
-            Err(Refused(Refusal::NoPart, 0))
-        }
-        Err(Refused(why, place)) => Err(Refused(why, place)),
+    let row = row_of_line(kind, file, first, y)?;
+    if !window.fits(row.part.count) || window.count <= x {
+        return Err(Refused(Refusal::NoPart, 0));
     }
+    let place = row.part.place + window.first + x;
+    let byte = file[place];
+    let tone = dots::tone(byte);
+    let set = dots::is_dot(tone, x, y);
+    Ok(Dot {
+        place,
+        byte,
+        tone,
+        set,
+    })
 }

@@ -1,44 +1,41 @@
 -- `plotter::strip` meets its contract: by whether it has rows, and where its first row is.
-use Prim.Native.Nat.{ℕ}
-use native.Mathlib.Omega.{arith}
-use mathlib.Core.Path.{◌∙◌, sym, ap, subst}
-use lib.ListN.{length}
-use Rattle.answer.specs.Told.{told}
-use Rattle.answer.specs.Outcome.{Outcome}
-use Rattle.answer.specs.Filled.{Writes}
-use Rattle.answer.proofs.Writers.{refused_writes_nothing}
-use Rattle.reader.specs.Rows.{check_file}
+use Rattle.std.proofs.Common.{arith, ℕ, [], length, sym, ap, refl, ◌∙◌}
+use Rattle.std.proofs.lemmas.Result.{err_from_is_err_and}
+use Rattle.answer.specs.Outcome.{mapped}
+use Rattle.answer.proofs.Writers.{refused_writes_nothing, written_to_the_front}
 use Rattle.plotter.specs.Strip.{strip_into}
-use Rattle.plotter.specs.Private.{Starts}
-use Rattle.plotter.proofs.Starting.{starts, no_start, no_rows, accepted_strip, nothing_written, written_as}
+use Rattle.plotter.proofs.Starting.{starts, is_a_start, refused_strip, no_start, no_rows, accepted_strip, written_as}
 use Rattle.plotter.proofs.strip.Goals as goal
-use Rattle.plotter.proofs.strip.Goals.{In-Ok}
 
--- going on to the first row
-begun : (c : In-Ok) → Starts c.args.kind c.args.file.now c.args.first c.in-Ok.start
-begun c =
+pub returns-in_err-check : goal.returns-in_err-check
+returns-in_err-check c =
     let a = c.args in
-    starts a.kind a.file.now a.first c.in-Ok.start (sym c.start_of.ensures ∙ ap told c.in-Ok.is)
+    let p = err_from_is_err_and c.from_residual.result c.from_residual.ensures.1 in
+    rw (p.1, p.2) (refused_writes_nothing a.out.now (refused_strip a.kind a.file.now (length a.out.now) a.first a.rows a.window.first a.window.count _ _ (sym c.in_err-check.ensures)))
 
 pub returns-then-rows-eq0 : goal.returns-then-rows-eq0
 returns-then-rows-eq0 c =
     let a = c.args in
-    subst (λ (o : Outcome ℕ). Writes (strip_into (length a.out.now) a.kind a.file.now a.first a.rows a.a a.c) a.out.now o a.out.now) (sym c.nothing.ensures)
-    (nothing_written _ a.out.now (check_file a.kind a.file.now)
-    (ap (λ (n : ℕ). strip_into (length a.out.now) a.kind a.file.now a.first n a.a a.c) c.if-rows-eq0.true ∙ no_rows a.kind a.file.now (length a.out.now) a.first a.a a.c))
+    written_to_the_front a.out.now 0 refl
+    (ap (λ (n : ℕ). strip_into (length a.out.now) a.kind a.file.now a.first n a.window.first a.window.count) c.if-rows-eq0.true
+    ∙ no_rows a.kind a.file.now (length a.out.now) a.first a.window.first a.window.count
+    ∙ ap (mapped (λ rows. [])) (sym c.in_ok-check.ensures))
 
-pub strip_from-requires : goal.strip_from-requires
-strip_from-requires c = (c.args.first, begun (goal.at.strip_from-requires c).In-Ok)
-
-pub returns-in-Ok : goal.returns-in-Ok
-returns-in-Ok c =
+pub returns-in_err-start : goal.returns-in_err-start
+returns-in_err-start c =
     let a = c.args in
-    let s = begun (goal.at.returns-in-Ok c).In-Ok in
-    written_as (accepted_strip a.kind a.file.now (length a.out.now) a.first a.rows a.a a.c s.rows s.accepted)
-    (c.strip_from.ensures a.first s)
+    let p = err_from_is_err_and c.from_residual-in_err-start.result c.from_residual-in_err-start.ensures.1 in
+    rw (p.1, p.2)
+    (refused_writes_nothing a.out.now
+    (no_start a.kind a.file.now (length a.out.now) a.first a.rows a.window.first a.window.count (omega (arith, c.if-rows-eq0.false)) _ _ (sym c.in_err-start.ensures)))
 
-pub returns-in-Err : goal.returns-in-Err
-returns-in-Err c =
+pub invariant_of-rows : goal.invariant_of-rows
+invariant_of-rows c =
     let a = c.args in
-    refused_writes_nothing a.out.now
-    (no_start a.kind a.file.now (length a.out.now) a.first a.rows a.a a.c (omega (arith, c.if-rows-eq0.false)) _ _ (sym c.start_of.ensures ∙ ap told c.in-Err.is))
+    record { starts = is_a_start a.kind a.file.now a.first c.in_ok-start.start (sym c.in_ok-start.ensures) }
+
+pub returns : goal.returns
+returns c =
+    let a = c.args in
+    let s = starts a.kind a.file.now a.first c.in_ok-start.start (sym c.in_ok-start.ensures) in
+    written_as (accepted_strip a.kind a.file.now (length a.out.now) a.first a.rows a.window.first a.window.count s.rows s.accepted) c.strip.ensures

@@ -1,69 +1,60 @@
 -- `trace::behind` meets its contract: the row is found, the window lies in it, and the column in the window.
-use Prim.Native.Nat.{ℕ, ◌+◌, ◌<◌}
-use native.Mathlib.Omega.{arith}
-use mathlib.Core.Path.{◌≡◌, ◌∙◌, sym, ap}
-use mathlib.Core.Bool.{Bool, true, false, ◌&&◌}
-use lib.ListN.{length, get_or}
+use Rattle.std.proofs.Common.{arith, ℕ, ◌+◌, ◌<◌, Bool, true, false, length, get_or, sym, ap, ap₂, ◌∙◌, ◌&&◌}
+use Rattle.std.proofs.lemmas.Result.{err_from_is_err_and}
 use lib.Dec.{ltb}
-use borrow.Author.Tests.{ltb-true}
-use Rattle.answer.specs.Told.{told}
+use borrow.Author.Tests.{lt-ltb, le-ltb}
 use Rattle.answer.specs.Outcome.{answer}
-use Rattle.answer.specs.Window.{fits}
-use Rattle.answer.proofs.Tests.{both_hold}
 use Rattle.dots.specs.Dot.{is_dot}
-use Rattle.reader.specs.Read.{find_row}
-use Rattle.reader.proofs.Found.{row_inside}
 use Rattle.trace.specs.declared.Dot.{Dot}
-use Rattle.plotter.proofs.Drawing.{window_inside}
-use Rattle.trace.proofs.OneDot.{dot_of_row, dot_refused}
+use Rattle.trace.proofs.OneDot.{dot_of_row, dot_refused, byte_inside}
 use Rattle.trace.proofs.behind.Goals as goal
-use Rattle.trace.proofs.behind.Goals.{In-Ok, Then-window_fits-x}
+use Rattle.trace.proofs.behind.Goals.{Else-window-x, then-not-fits-via-then-not-fits, then-not-fits-via-else-not-fits+then-window-x}
 
 abbrev dot : (place byte tone : ℕ) → Bool → Dot
 dot place byte tone set = record { place = place; byte = byte; tone = tone; set = set }
 
-found : (c : In-Ok) → find_row c.args.kind c.args.file.now (c.args.first + c.args.y) ≡ answer c.in-Ok.row
-found c = sym c.row_of_line.ensures ∙ ap told c.in-Ok.is
-
--- the window fits, and the column is in it
-both : (c : Then-window_fits-x) → (fits c.in-Ok.row.part.count c.args.a c.args.c && ltb c.args.x c.args.c) ≡ true
-both c = ap (λ (t : Bool). t && ltb c.args.x c.args.c) (sym c.window_fits.ensures) ∙ c.if-window_fits-x.true
-
--- so the byte lies in the file
-inside : (c : Then-window_fits-x) → find_row c.args.kind c.args.file.now (c.args.first + c.args.y) ≡ answer c.in-Ok.row
-    → c.in-Ok.row.part.place + c.args.a + c.args.x < length c.args.file.now
-inside c there =
+pub returns-in_err-row : goal.returns-in_err-row
+returns-in_err-row c =
     let a = c.args in
-    let row = c.in-Ok.row in
-    let (fit, column) = both_hold (fits row.part.count a.a a.c) (ltb a.x a.c) (both c) in
-    omega (arith, window_inside a.file.now row a.a a.c (row_inside a.kind a.file.now (a.first + a.y) row there) fit, ltb-true a.x a.c column)
+    let p = err_from_is_err_and c.from_residual.result c.from_residual.ensures.1 in
+    rw (p.1, p.2) (sym (dot_refused a.kind a.file.now a.first a.window.first a.window.count a.x a.y _ _ (sym c.in_err-row.ensures)))
+
+pub returns-then-not-fits : goal.returns-then-not-fits
+returns-then-not-fits c =
+    let a = c.args in
+    let row = c.in_ok-row.row in
+    let found = sym c.in_ok-row.ensures in
+    elim c.then-not-fits.branch [
+      | then-not-fits-via-then-not-fits w ↦
+          sym (dot_of_row a.kind a.file.now a.first a.window.first a.window.count a.x a.y row found false
+          (ap (λ (t : Bool). t && ltb a.x a.window.count) (sym w.if-not-fits.ensures)))
+      | then-not-fits-via-else-not-fits+then-window-x w ↦
+          sym (dot_of_row a.kind a.file.now a.first a.window.first a.window.count a.x a.y row found false
+          (ap₂ ◌&&◌ (sym w.if-not-fits.ensures) (le-ltb a.x a.window.count w.if-window-x.true)))
+    ]
+
+-- the byte lies in the file
+inside : (c : Else-window-x) → c.in_ok-row.row.part.place + c.args.window.first + c.args.x < length c.args.file.now
+inside c =
+    let a = c.args in
+    byte_inside a.kind a.file.now a.first a.window.first a.window.count a.x a.y c.in_ok-row.row (sym c.in_ok-row.ensures) (sym c.if-not-fits.ensures) c.if-window-x.false
 
 pub overflow_add-place : goal.overflow_add-place
-overflow_add-place c = omega (arith, inside (goal.at.overflow_add-place c).Then-window_fits-x (found (goal.at.overflow_add-place c).In-Ok))
+overflow_add-place c = omega (arith, inside (goal.at.overflow_add-place c).Else-window-x)
 
-pub overflow_add-place-then-window_fits-x : goal.overflow_add-place-then-window_fits-x
-overflow_add-place-then-window_fits-x c = omega (arith, inside (goal.at.overflow_add-place-then-window_fits-x c).Then-window_fits-x (found (goal.at.overflow_add-place-then-window_fits-x c).In-Ok))
+pub overflow_add-place-2 : goal.overflow_add-place-2
+overflow_add-place-2 c = omega (arith, inside (goal.at.overflow_add-place-2 c).Else-window-x)
 
 pub bounds-file-place : goal.bounds-file-place
-bounds-file-place c = inside (goal.at.bounds-file-place c).Then-window_fits-x (found (goal.at.bounds-file-place c).In-Ok)
+bounds-file-place c = inside (goal.at.bounds-file-place c).Else-window-x
 
-pub returns-then-window_fits-x : goal.returns-then-window_fits-x
-returns-then-window_fits-x c =
+pub returns : goal.returns
+returns c =
     let a = c.args in
-    let row = c.in-Ok.row in
-    let place = row.part.place + a.a + a.x in
+    let row = c.in_ok-row.row in
+    let place = row.part.place + a.window.first + a.x in
     let byte = get_or a.file.now place 0 in
     ap (λ (s : Bool). answer (dot place byte c.tone-tone.result s)) c.is_dot-set.ensures
     ∙ ap (λ (t : ℕ). answer (dot place byte t (is_dot t a.x a.y))) c.tone-tone.ensures
-    ∙ sym (dot_of_row a.kind a.file.now a.first a.a a.c a.x a.y row (found (goal.at.returns-then-window_fits-x c).In-Ok) true (both (goal.at.returns-then-window_fits-x c).Then-window_fits-x))
-
-pub returns-else-window_fits-x : goal.returns-else-window_fits-x
-returns-else-window_fits-x c =
-    let a = c.args in
-    let row = c.in-Ok.row in
-    sym (dot_of_row a.kind a.file.now a.first a.a a.c a.x a.y row (found (goal.at.returns-else-window_fits-x c).In-Ok) false (ap (λ (t : Bool). t && ltb a.x a.c) (sym c.window_fits.ensures) ∙ c.if-window_fits-x.false))
-
-pub returns-in-Err : goal.returns-in-Err
-returns-in-Err c =
-    let a = c.args in
-    sym (dot_refused a.kind a.file.now a.first a.a a.c a.x a.y _ _ (sym c.row_of_line.ensures ∙ ap told c.in-Err.is))
+    ∙ sym (dot_of_row a.kind a.file.now a.first a.window.first a.window.count a.x a.y row (sym c.in_ok-row.ensures) true
+    (ap₂ ◌&&◌ (sym c.if-not-fits.ensures) (lt-ltb a.x a.window.count c.if-window-x.false)))

@@ -1,19 +1,18 @@
 -- `trace::row_of_line` meets its contract: a row's number that passes 64 bits is beyond the last row.
-use Prim.Native.Nat.{◌+◌}
-use native.Mathlib.Omega.{arith}
-use mathlib.Core.Path.{◌∙◌, sym, ap}
-use Rattle.answer.specs.Told.{told}
+use Rattle.std.proofs.Common.{arith, ◌+◌, sym}
+use Rattle.std.proofs.lemmas.Result.{err_from_is_err_and}
 use Rattle.trace.proofs.OneDot.{past_the_last, of_a_refused_file}
 use Rattle.trace.proofs.row_of_line.Goals as goal
 
-pub returns-in-Ok : goal.returns-in-Ok
-returns-in-Ok c =
+pub returns-in_err-check-in-None : goal.returns-in_err-check-in-None
+returns-in_err-check-in-None c =
     let a = c.args in
-    c.no_row.ensures.0
-    ∙ sym (past_the_last a.kind a.file.now c.in-Ok.rows (a.first + a.y) (sym c.check.ensures ∙ ap told c.in-Ok.is)
-    (omega (arith, c.no_row.ensures.1, c.if-first-y.true)))
+    let p = err_from_is_err_and c.from_residual.result c.from_residual.ensures.1 in
+    rw (p.1, p.2) (sym (of_a_refused_file a.kind a.file.now _ _ (a.first + a.y) (sym c.in_err-check-in-None.ensures)))
 
-pub returns-in-Err : goal.returns-in-Err
-returns-in-Err c =
+pub returns-in_ok-check-in-None : goal.returns-in_ok-check-in-None
+returns-in_ok-check-in-None c =
     let a = c.args in
-    sym (of_a_refused_file a.kind a.file.now _ _ (a.first + a.y) (sym c.check.ensures ∙ ap told c.in-Err.is))
+    let range = rw c.in_ok-check-in-None.was at c.check.type_inv in
+    sym (past_the_last a.kind a.file.now c.in_ok-check-in-None.field-0 (a.first + a.y) (sym c.in_ok-check-in-None.ensures)
+    (omega (arith, range, c.in-None.ensures)))
