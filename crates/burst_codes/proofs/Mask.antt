@@ -1,9 +1,9 @@
 -- The number of set bits of a mask of five bits is the sum of these bits; and the verdict that a mask gets is that of field 33's limits.
-use Prim.Native.Nat.{ℕ, ◌+◌, ◌/◌, ◌%◌, ◌≤◌}
+use Prim.Native.Nat.{ℕ, ◌/◌, ◌≤◌}
 use native.Mathlib.Nat.{lt_of_not-le}
 use native.Mathlib.Decide.{dec_le}
 use native.Mathlib.Omega.{arith}
-use mathlib.Core.Path.{◌≡◌, refl, ◌∙◌, ap}
+use mathlib.Core.Path.{◌≡◌, refl, ap}
 use lib.IntN.{pos}
 use lib.Count.{ones, ones_step}
 use borrow.Author.Tests.{le-leb, lt-leb, lt-ltb, le-ltb}
@@ -19,27 +19,23 @@ none_set : ones 0 ≡ 0
 unfolding ones
 none_set = refl
 
--- the lowest bit, and the bits of the half
-one_bit : (n half : ℕ) → n / 2 ≡ half → ones n ≡ n % 2 + ones half
-one_bit n half e = ones_step n ∙ ap (λ (h : ℕ). n % 2 + ones h) e
-
-from_the_left : (a b c d e : ℕ) → a + (b + (c + (d + (e + 0)))) ≡ a + b + c + d + e
-from_the_left a b c d e = omega arith
-
+-- each step takes the lowest bit, and five leave none
 pub ones_are_the_sum : (m : ℕ) → m ≤ 31 → ones m ≡ sum_of_bits m
 ones_are_the_sum m h =
-    one_bit m (m / 2) refl
-    ∙ ap (λ (n : ℕ). m % 2 + n)
-    (one_bit (m / 2) (m / 4) (omega arith)
-    ∙ ap (λ (n : ℕ). m / 2 % 2 + n)
-    (one_bit (m / 4) (m / 8) (omega arith)
-    ∙ ap (λ (n : ℕ). m / 4 % 2 + n)
-    (one_bit (m / 8) (m / 16) (omega arith)
-    ∙ ap (λ (n : ℕ). m / 8 % 2 + n) (one_bit (m / 16) 0 (omega arith) ∙ ap (λ (n : ℕ). m / 16 % 2 + n) none_set))))
-    ∙ from_the_left (m % 2) (m / 2 % 2) (m / 4 % 2) (m / 8 % 2) (m / 16 % 2)
+    let none_left : m / 2 / 2 / 2 / 2 / 2 ≡ 0 = omega arith in
+    omega (
+      arith,
+      none_set,
+      ones_step m,
+      ones_step (m / 2),
+      ones_step (m / 2 / 2),
+      ones_step (m / 2 / 2 / 2),
+      ones_step (m / 2 / 2 / 2 / 2),
+      ap ones none_left,
+    )
 
 -- field 33's limits are 0 and 31
-limits_of_the_mask : limits_of (table_of Bursts) 33 ≡ answer (record { 0 = 33; 1 = pos 0; 2 = pos 31 })
+limits_of_the_mask : limits_of (table_of Bursts) 33 ≡ answer (record { number = 33; minimum = pos 0; maximum = pos 31 })
 unfolding burst_table
 limits_of_the_mask = refl
 

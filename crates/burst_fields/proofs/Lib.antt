@@ -1,3 +1,1 @@
-pub mod SignedNumbers
-pub mod Contents
 pub mod Limited

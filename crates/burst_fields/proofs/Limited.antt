@@ -21,7 +21,8 @@ use Rattle.burst_layout.proofs.EndToEnd.{field_has_its_position}
 use Rattle.burst_layout.proofs.Lines.{of_each}
 use Rattle.limits.specs.BurstLimits.{burst_table}
 use Rattle.limits.specs.declared.Limit.{Limit}
-use Rattle.verdicts.specs.Verdict.{Side, side, limits_of}
+use Rattle.verdicts.specs.Verdict.{side, limits_of}
+use Rattle.verdicts.specs.declared.Side.{Side}
 use Rattle.burst_fields.specs.Fields.{content_of, part_of, field_from, field_of, verdict_on, field_verdict}
 
 -- what the table has for a field that is not stored as an unsigned integer; of an unsigned one nothing is asked
@@ -33,7 +34,7 @@ limits_unless stored.Float8 n = limits_of burst_table n
 limits_unless stored.Text n = limits_of burst_table n
 
 only_unsigned_have_limits : map (λ (g : Field). limits_unless g.stored g.position) layout ≡ map (λ (g : Field). refuse 10 0) layout
-unfolding burst_table
+unfolding burst_table layout
 only_unsigned_have_limits = refl
 
 no_limits_unless : (n : ℕ) (g : Field) → field_at n ≡ answer g → limits_unless g.stored n ≡ refuse 10 0

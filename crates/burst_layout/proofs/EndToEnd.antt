@@ -47,6 +47,7 @@ as_tested n at (f ∷ fs) e =
     (eqb-true f.position n u.0, eqb-true f.place at v.0, fits_as_tested f.stored f.size v.1, as_tested (n + 1) (at + f.size) fs t.1)
 
 pub fields_stand_end_to_end : EndToEnd 1 0 layout
+unfolding layout
 fields_stand_end_to_end = as_tested 1 0 layout refl
 
 -- fields that begin at `at` begin in the row or at its end

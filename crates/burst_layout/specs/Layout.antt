@@ -4,7 +4,6 @@
 -- PC_REAL for them, where section 8.2 says uint32.
 use Rattle.std.specs.Prelude.{ℕ, zero, suc, List, [], ◌∷◌}
 use Rattle.answer.specs.Outcome.{Outcome, answer, refuse}
-use Rattle.answer.specs.Refusal.{number_of}
 use Rattle.burst_layout.specs.declared.Storage.{Storage}
 use Rattle.burst_layout.specs.declared.Storage.TheVariants.{Unsigned, Signed, Float4, Float8, Text}
 use Rattle.burst_layout.specs.declared.Field.{Field}
@@ -13,7 +12,7 @@ use Rattle.burst_layout.specs.declared.Field.{Field}
 abbrev pub field : ℕ → ℕ → ℕ → Storage → Field
 field n at bytes type = record { position = n; place = at; size = bytes; stored = type }
 
-abbrev pub layout : List Field
+unfoldable pub layout : List Field
 layout =
     field 1 0 4 Unsigned ∷  -- sync
     field 2 4 4 Unsigned ∷  -- spacecraft_clock
@@ -282,4 +281,3 @@ line_in (f ∷ fs) (suc i) = line_in fs i
 abbrev pub field_at : ℕ → Outcome Field
 field_at zero = refuse 10 0
 field_at (suc i) = line_in layout i
-

@@ -6,13 +6,12 @@
 
 ghost use Rattle.answer.specs.Told.{told};
 ghost use Rattle.std.specs.Prelude.{◌≡◌};
-ghost use Rattle.burst_layout.specs.Layout.{field_at};
-ghost use Rattle.burst_layout.specs.Private.{type_of, size_of, Others, word_at, digits_at};
+ghost use Rattle.burst_layout.specs.Layout.{layout, field_at};
 
 use answer::{Refusal, Refused};
 
 // A field's storage type in section 8.2: uint32, int32, float32, float64 and ASCII string.
-#[derive(Clone, Copy)]
+#[derive(Clone, Copy, Debug, PartialEq, Eq)]
 pub enum Storage {
     Unsigned,
     Signed,
@@ -23,7 +22,7 @@ pub enum Storage {
 
 // A field's position in section 8.1, the place of its first byte in the row, counted from 0, how many
 // bytes it has, and its type.
-#[derive(Clone, Copy)]
+#[derive(Clone, Copy, Debug, PartialEq, Eq)]
 pub struct Field {
     pub position: usize,
     pub place: usize,
@@ -31,124 +30,272 @@ pub struct Field {
     pub stored: Storage,
 }
 
-// How many fields section 8.1 lists.
-const FIELDS: usize = 255;
+// Section 8.1 in its order.
+#[rattlefmt::skip]
+static LAYOUT: [Field; 255] = [
+    Field { position: 1, place: 0, size: 4, stored: Storage::Unsigned }, // sync
+    Field { position: 2, place: 4, size: 4, stored: Storage::Unsigned }, // spacecraft_clock
+    Field { position: 3, place: 8, size: 4, stored: Storage::Unsigned }, // burst_id
+    Field { position: 4, place: 12, size: 4, stored: Storage::Float4 }, // cds_pickup_rate
+    Field { position: 5, place: 16, size: 4, stored: Storage::Float4 }, // burst_start_time
+    Field { position: 6, place: 20, size: 4, stored: Storage::Float4 }, // header_tfi
+    Field { position: 7, place: 24, size: 4, stored: Storage::Unsigned }, // header_tnc
+    Field { position: 8, place: 28, size: 4, stored: Storage::Unsigned }, // header_typ
+    Field { position: 9, place: 32, size: 4, stored: Storage::Unsigned }, // header_tca
+    Field { position: 10, place: 36, size: 4, stored: Storage::Unsigned }, // header_tcb
+    Field { position: 11, place: 40, size: 4, stored: Storage::Unsigned }, // header_tcc
+    Field { position: 12, place: 44, size: 4, stored: Storage::Unsigned }, // pwri
+    Field { position: 13, place: 48, size: 4, stored: Storage::Unsigned }, // vicc
+    Field { position: 14, place: 52, size: 4, stored: Storage::Unsigned }, // vimc
+    Field { position: 15, place: 56, size: 4, stored: Storage::Unsigned }, // tail_len
+    Field { position: 16, place: 60, size: 4, stored: Storage::Unsigned }, // tail_id
+    Field { position: 17, place: 64, size: 4, stored: Storage::Unsigned }, // sab_counter
+    Field { position: 18, place: 68, size: 4, stored: Storage::Unsigned }, // sab_len
+    Field { position: 19, place: 72, size: 4, stored: Storage::Unsigned }, // fswm
+    Field { position: 20, place: 76, size: 4, stored: Storage::Unsigned }, // fswc
+    Field { position: 21, place: 80, size: 4, stored: Storage::Unsigned }, // ctbc
+    Field { position: 22, place: 84, size: 4, stored: Storage::Unsigned }, // rx_window_pri
+    Field { position: 23, place: 88, size: 4, stored: Storage::Unsigned }, // ctps
+    Field { position: 24, place: 92, size: 4, stored: Storage::Unsigned }, // ctbe
+    Field { position: 25, place: 96, size: 4, stored: Storage::Unsigned }, // ctps_ctbe
+    Field { position: 26, place: 100, size: 4, stored: Storage::Unsigned }, // header_end
+    Field { position: 27, place: 104, size: 4, stored: Storage::Unsigned }, // slow_tfi
+    Field { position: 28, place: 108, size: 4, stored: Storage::Unsigned }, // data_take_number
+    Field { position: 29, place: 112, size: 4, stored: Storage::Unsigned }, // slow_typ
+    Field { position: 30, place: 116, size: 4, stored: Storage::Unsigned }, // calibration_source
+    Field { position: 31, place: 120, size: 4, stored: Storage::Unsigned }, // radar_mode
+    Field { position: 32, place: 124, size: 4, stored: Storage::Unsigned }, // sin
+    Field { position: 33, place: 128, size: 4, stored: Storage::Unsigned }, // bem
+    Field { position: 34, place: 132, size: 4, stored: Storage::Unsigned }, // baq_mode
+    Field { position: 35, place: 136, size: 4, stored: Storage::Float4 }, // tro
+    Field { position: 36, place: 140, size: 4, stored: Storage::Float4 }, // receiver_bandwidth
+    Field { position: 37, place: 144, size: 4, stored: Storage::Float4 }, // adc_rate
+    Field { position: 38, place: 148, size: 4, stored: Storage::Float4 }, // at1_tot
+    Field { position: 39, place: 152, size: 4, stored: Storage::Float4 }, // at3_tot
+    Field { position: 40, place: 156, size: 4, stored: Storage::Float4 }, // at4_tot
+    Field { position: 41, place: 160, size: 4, stored: Storage::Unsigned }, // at1_each
+    Field { position: 42, place: 164, size: 4, stored: Storage::Unsigned }, // at3_each
+    Field { position: 43, place: 168, size: 4, stored: Storage::Unsigned }, // at4_each
+    Field { position: 44, place: 172, size: 4, stored: Storage::Float4 }, // antenna_int_period
+    Field { position: 45, place: 176, size: 4, stored: Storage::Float4 }, // chirp_time_step
+    Field { position: 46, place: 180, size: 4, stored: Storage::Unsigned }, // num_rad_meas
+    Field { position: 47, place: 184, size: 4, stored: Storage::Unsigned }, // num_chirp_steps
+    Field { position: 48, place: 188, size: 4, stored: Storage::Float4 }, // chirp_length
+    Field { position: 49, place: 192, size: 4, stored: Storage::Float4 }, // chirp_freq_step
+    Field { position: 50, place: 196, size: 4, stored: Storage::Float4 }, // fast_tfi
+    Field { position: 51, place: 200, size: 4, stored: Storage::Unsigned }, // fin
+    Field { position: 52, place: 204, size: 4, stored: Storage::Unsigned }, // fast_type
+    Field { position: 53, place: 208, size: 4, stored: Storage::Unsigned }, // num_pulses
+    Field { position: 54, place: 212, size: 4, stored: Storage::Unsigned }, // bii
+    Field { position: 55, place: 216, size: 4, stored: Storage::Float4 }, // burst_period
+    Field { position: 56, place: 220, size: 4, stored: Storage::Float4 }, // pri
+    Field { position: 57, place: 224, size: 4, stored: Storage::Float4 }, // rx_window_delay
+    Field { position: 58, place: 228, size: 4, stored: Storage::Float4 }, // chirp_start_freq
+    Field { position: 59, place: 232, size: 4, stored: Storage::Unsigned }, // iebtth
+    Field { position: 60, place: 236, size: 4, stored: Storage::Unsigned }, // iebtll
+    Field { position: 61, place: 240, size: 4, stored: Storage::Unsigned }, // bgcalls
+    Field { position: 62, place: 244, size: 4, stored: Storage::Unsigned }, // delvmn
+    Field { position: 63, place: 248, size: 4, stored: Storage::Unsigned }, // delvda
+    Field { position: 64, place: 252, size: 4, stored: Storage::Unsigned }, // delvyr
+    Field { position: 65, place: 256, size: 4, stored: Storage::Unsigned }, // raw_res_load_meas
+    Field { position: 66, place: 260, size: 4, stored: Storage::Unsigned }, // raw_antenna_meas
+    Field { position: 67, place: 264, size: 4, stored: Storage::Unsigned }, // raw_noise_diode_meas
+    Field { position: 68, place: 268, size: 4, stored: Storage::Unsigned }, // eout
+    Field { position: 69, place: 272, size: 4, stored: Storage::Unsigned }, // subr
+    Field { position: 70, place: 276, size: 4, stored: Storage::Unsigned }, // space_craft_time
+    Field { position: 71, place: 280, size: 4, stored: Storage::Float4 }, // noise_diode_int_period
+    Field { position: 72, place: 284, size: 4, stored: Storage::Float4 }, // res_load_int_period
+    Field { position: 73, place: 288, size: 4, stored: Storage::Float4 }, // fwdtmp
+    Field { position: 74, place: 292, size: 4, stored: Storage::Float4 }, // be1tmp
+    Field { position: 75, place: 296, size: 4, stored: Storage::Float4 }, // be2tmp
+    Field { position: 76, place: 300, size: 4, stored: Storage::Float4 }, // be3tmp
+    Field { position: 77, place: 304, size: 4, stored: Storage::Float4 }, // be4tmp
+    Field { position: 78, place: 308, size: 4, stored: Storage::Float4 }, // be5tmp
+    Field { position: 79, place: 312, size: 4, stored: Storage::Float4 }, // diptmp
+    Field { position: 80, place: 316, size: 4, stored: Storage::Float4 }, // rlotmp
+    Field { position: 81, place: 320, size: 4, stored: Storage::Float4 }, // tadcal1
+    Field { position: 82, place: 324, size: 4, stored: Storage::Float4 }, // nsdtmp
+    Field { position: 83, place: 328, size: 4, stored: Storage::Float4 }, // lnatmp
+    Field { position: 84, place: 332, size: 4, stored: Storage::Float4 }, // evdtmp
+    Field { position: 85, place: 336, size: 4, stored: Storage::Float4 }, // mratmp
+    Field { position: 86, place: 340, size: 4, stored: Storage::Float4 }, // mruttm
+    Field { position: 87, place: 344, size: 4, stored: Storage::Float4 }, // dcgttm
+    Field { position: 88, place: 348, size: 4, stored: Storage::Float4 }, // cucttm
+    Field { position: 89, place: 352, size: 4, stored: Storage::Float4 }, // twttmp
+    Field { position: 90, place: 356, size: 4, stored: Storage::Float4 }, // epctmp
+    Field { position: 91, place: 360, size: 4, stored: Storage::Float4 }, // tw1ttm
+    Field { position: 92, place: 364, size: 4, stored: Storage::Float4 }, // ep1ttm
+    Field { position: 93, place: 368, size: 4, stored: Storage::Float4 }, // p_stmp
+    Field { position: 94, place: 372, size: 4, stored: Storage::Float4 }, // p_sttm
+    Field { position: 95, place: 376, size: 4, stored: Storage::Float4 }, // fguttm
+    Field { position: 96, place: 380, size: 4, stored: Storage::Float4 }, // tadcal4
+    Field { position: 97, place: 384, size: 4, stored: Storage::Float4 }, // esstmp
+    Field { position: 98, place: 388, size: 4, stored: Storage::Float4 }, // wgb1t1
+    Field { position: 99, place: 392, size: 4, stored: Storage::Float4 }, // wgb3t1
+    Field { position: 100, place: 396, size: 4, stored: Storage::Float4 }, // wgb3t2
+    Field { position: 101, place: 400, size: 4, stored: Storage::Float4 }, // wgb3t3
+    Field { position: 102, place: 404, size: 4, stored: Storage::Float4 }, // wgb5t1
+    Field { position: 103, place: 408, size: 4, stored: Storage::Float4 }, // pcutmp
+    Field { position: 104, place: 412, size: 4, stored: Storage::Float4 }, // adctmp
+    Field { position: 105, place: 416, size: 4, stored: Storage::Float4 }, // tadcal2
+    Field { position: 106, place: 420, size: 4, stored: Storage::Float4 }, // ecltmp
+    Field { position: 107, place: 424, size: 4, stored: Storage::Float4 }, // cputmp
+    Field { position: 108, place: 428, size: 4, stored: Storage::Float4 }, // memtmp
+    Field { position: 109, place: 432, size: 4, stored: Storage::Float4 }, // sadctmp
+    Field { position: 110, place: 436, size: 4, stored: Storage::Float4 }, // tadcal3
+    Field { position: 111, place: 440, size: 4, stored: Storage::Float4 }, // frwdpw
+    Field { position: 112, place: 444, size: 4, stored: Storage::Float4 }, // dcgmon
+    Field { position: 113, place: 448, size: 4, stored: Storage::Float4 }, // lpltlm
+    Field { position: 114, place: 452, size: 4, stored: Storage::Float4 }, // nsdcur
+    Field { position: 115, place: 456, size: 4, stored: Storage::Float4 }, // hpapsm
+    Field { position: 116, place: 460, size: 4, stored: Storage::Float4 }, // catcur
+    Field { position: 117, place: 464, size: 4, stored: Storage::Float4 }, // p_smon
+    Field { position: 118, place: 468, size: 4, stored: Storage::Float4 }, // svlsta
+    Field { position: 119, place: 472, size: 4, stored: Storage::Float4 }, // usotmp
+    Field { position: 120, place: 476, size: 4, stored: Storage::Float4 }, // cpbnkv
+    Field { position: 121, place: 480, size: 4, stored: Storage::Float4 }, // essvlt
+    Field { position: 122, place: 484, size: 4, stored: Storage::Float4 }, // tadcal5
+    Field { position: 123, place: 488, size: 4, stored: Storage::Float4 }, // pcu5v_pos
+    Field { position: 124, place: 492, size: 4, stored: Storage::Float4 }, // pcu5i_pos
+    Field { position: 125, place: 496, size: 4, stored: Storage::Float4 }, // pcu5v_neg
+    Field { position: 126, place: 500, size: 4, stored: Storage::Float4 }, // pcu5i_neg
+    Field { position: 127, place: 504, size: 4, stored: Storage::Float4 }, // pcu15v_pos
+    Field { position: 128, place: 508, size: 4, stored: Storage::Float4 }, // pcu15i_pos
+    Field { position: 129, place: 512, size: 4, stored: Storage::Float4 }, // pcu15v_neg
+    Field { position: 130, place: 516, size: 4, stored: Storage::Float4 }, // pcu15i_neg
+    Field { position: 131, place: 520, size: 4, stored: Storage::Float4 }, // pcu12v_neg
+    Field { position: 132, place: 524, size: 4, stored: Storage::Float4 }, // pcu12i_neg
+    Field { position: 133, place: 528, size: 4, stored: Storage::Float4 }, // pcucur
+    Field { position: 134, place: 532, size: 4, stored: Storage::Float4 }, // pllmon
+    Field { position: 135, place: 536, size: 4, stored: Storage::Float4 }, // ctu5i
+    Field { position: 136, place: 540, size: 4, stored: Storage::Float4 }, // tadcal6
+    Field { position: 137, place: 544, size: 4, stored: Storage::Float4 }, // pcu9v_pos
+    Field { position: 138, place: 548, size: 4, stored: Storage::Float4 }, // pcu9i_pos
+    Field { position: 139, place: 552, size: 4, stored: Storage::Float4 }, // pcu9v_neg
+    Field { position: 140, place: 556, size: 4, stored: Storage::Float4 }, // pcu9i_neg
+    Field { position: 141, place: 560, size: 4, stored: Storage::Float4 }, // tadcal7
+    Field { position: 142, place: 564, size: 4, stored: Storage::Float4 }, // shpttm
+    Field { position: 143, place: 568, size: 4, stored: Storage::Unsigned }, // num_bursts_in_flight
+    Field { position: 144, place: 572, size: 4, stored: Storage::Unsigned }, // raw_active_mode_length
+    Field { position: 145, place: 576, size: 4, stored: Storage::Float4 }, // raw_active_mode_rms
+    Field { position: 146, place: 580, size: 4, stored: Storage::Unsigned }, // engineer_qual_flag
+    Field { position: 147, place: 584, size: 8, stored: Storage::Float8 }, // t_sc_clock
+    Field { position: 148, place: 592, size: 8, stored: Storage::Float8 }, // t_ephem_time
+    Field { position: 149, place: 600, size: 24, stored: Storage::Text }, // t_utc_ymd
+    Field { position: 150, place: 624, size: 24, stored: Storage::Text }, // t_utc_doy
+    Field { position: 151, place: 648, size: 8, stored: Storage::Float8 }, // transmit_time_offset
+    Field { position: 152, place: 656, size: 8, stored: Storage::Float8 }, // time_from_closest_approach
+    Field { position: 153, place: 664, size: 8, stored: Storage::Float8 }, // time_from_epoch
+    Field { position: 154, place: 672, size: 16, stored: Storage::Text }, // target_name
+    Field { position: 155, place: 688, size: 24, stored: Storage::Text }, // tbf_frame_name
+    Field { position: 156, place: 712, size: 8, stored: Storage::Float8 }, // pole_right_ascension
+    Field { position: 157, place: 720, size: 8, stored: Storage::Float8 }, // pole_declination
+    Field { position: 158, place: 728, size: 8, stored: Storage::Float8 }, // target_rotation_rate
+    Field { position: 159, place: 736, size: 8, stored: Storage::Float8 }, // target_rotation_angle
+    Field { position: 160, place: 744, size: 4, stored: Storage::Float4 }, // scwg_tmp
+    Field { position: 161, place: 748, size: 4, stored: Storage::Float4 }, // feed_tmp
+    Field { position: 162, place: 752, size: 4, stored: Storage::Float4 }, // hga_tmp
+    Field { position: 163, place: 756, size: 4, stored: Storage::Unsigned }, // beam_number
+    Field { position: 164, place: 760, size: 8, stored: Storage::Float8 }, // sc_pos_j2000_x
+    Field { position: 165, place: 768, size: 8, stored: Storage::Float8 }, // sc_pos_j2000_y
+    Field { position: 166, place: 776, size: 8, stored: Storage::Float8 }, // sc_pos_j2000_z
+    Field { position: 167, place: 784, size: 8, stored: Storage::Float8 }, // sc_vel_j2000_x
+    Field { position: 168, place: 792, size: 8, stored: Storage::Float8 }, // sc_vel_j2000_y
+    Field { position: 169, place: 800, size: 8, stored: Storage::Float8 }, // sc_vel_j2000_z
+    Field { position: 170, place: 808, size: 8, stored: Storage::Float8 }, // sc_pos_target_x
+    Field { position: 171, place: 816, size: 8, stored: Storage::Float8 }, // sc_pos_target_y
+    Field { position: 172, place: 824, size: 8, stored: Storage::Float8 }, // sc_pos_target_z
+    Field { position: 173, place: 832, size: 8, stored: Storage::Float8 }, // sc_vel_target_x
+    Field { position: 174, place: 840, size: 8, stored: Storage::Float8 }, // sc_vel_target_y
+    Field { position: 175, place: 848, size: 8, stored: Storage::Float8 }, // sc_vel_target_z
+    Field { position: 176, place: 856, size: 8, stored: Storage::Float8 }, // sc_x_axis_j2000_x
+    Field { position: 177, place: 864, size: 8, stored: Storage::Float8 }, // sc_x_axis_j2000_y
+    Field { position: 178, place: 872, size: 8, stored: Storage::Float8 }, // sc_x_axis_j2000_z
+    Field { position: 179, place: 880, size: 8, stored: Storage::Float8 }, // sc_y_axis_j2000_x
+    Field { position: 180, place: 888, size: 8, stored: Storage::Float8 }, // sc_y_axis_j2000_y
+    Field { position: 181, place: 896, size: 8, stored: Storage::Float8 }, // sc_y_axis_j2000_z
+    Field { position: 182, place: 904, size: 8, stored: Storage::Float8 }, // sc_z_axis_j2000_x
+    Field { position: 183, place: 912, size: 8, stored: Storage::Float8 }, // sc_z_axis_j2000_y
+    Field { position: 184, place: 920, size: 8, stored: Storage::Float8 }, // sc_z_axis_j2000_z
+    Field { position: 185, place: 928, size: 8, stored: Storage::Float8 }, // sc_x_axis_target_x
+    Field { position: 186, place: 936, size: 8, stored: Storage::Float8 }, // sc_x_axis_target_y
+    Field { position: 187, place: 944, size: 8, stored: Storage::Float8 }, // sc_x_axis_target_z
+    Field { position: 188, place: 952, size: 8, stored: Storage::Float8 }, // sc_y_axis_target_x
+    Field { position: 189, place: 960, size: 8, stored: Storage::Float8 }, // sc_y_axis_target_y
+    Field { position: 190, place: 968, size: 8, stored: Storage::Float8 }, // sc_y_axis_target_z
+    Field { position: 191, place: 976, size: 8, stored: Storage::Float8 }, // sc_z_axis_target_x
+    Field { position: 192, place: 984, size: 8, stored: Storage::Float8 }, // sc_z_axis_target_y
+    Field { position: 193, place: 992, size: 8, stored: Storage::Float8 }, // sc_z_axis_target_z
+    Field { position: 194, place: 1000, size: 8, stored: Storage::Float8 }, // rot_vel_j2000_x
+    Field { position: 195, place: 1008, size: 8, stored: Storage::Float8 }, // rot_vel_j2000_y
+    Field { position: 196, place: 1016, size: 8, stored: Storage::Float8 }, // rot_vel_j2000_z
+    Field { position: 197, place: 1024, size: 8, stored: Storage::Float8 }, // rot_vel_target_x
+    Field { position: 198, place: 1032, size: 8, stored: Storage::Float8 }, // rot_vel_target_y
+    Field { position: 199, place: 1040, size: 8, stored: Storage::Float8 }, // rot_vel_target_z
+    Field { position: 200, place: 1048, size: 4, stored: Storage::Float4 }, // norm_cnt_rl
+    Field { position: 201, place: 1052, size: 4, stored: Storage::Float4 }, // norm_cnt_nd
+    Field { position: 202, place: 1056, size: 4, stored: Storage::Float4 }, // norm_cnt_radio
+    Field { position: 203, place: 1060, size: 4, stored: Storage::Signed }, // science_qual_flag
+    Field { position: 204, place: 1064, size: 4, stored: Storage::Float4 }, // system_gain
+    Field { position: 205, place: 1068, size: 4, stored: Storage::Float4 }, // antenna_temp
+    Field { position: 206, place: 1072, size: 4, stored: Storage::Float4 }, // receiver_temp
+    Field { position: 207, place: 1076, size: 4, stored: Storage::Float4 }, // ant_temp_std
+    Field { position: 208, place: 1080, size: 4, stored: Storage::Float4 }, // pass_geom_time_offset
+    Field { position: 209, place: 1084, size: 4, stored: Storage::Float4 }, // pass_pol_angle
+    Field { position: 210, place: 1088, size: 4, stored: Storage::Float4 }, // pass_emission_angle
+    Field { position: 211, place: 1092, size: 4, stored: Storage::Float4 }, // pass_azimuth_angle
+    Field { position: 212, place: 1096, size: 4, stored: Storage::Float4 }, // pass_centroid_lon
+    Field { position: 213, place: 1100, size: 4, stored: Storage::Float4 }, // pass_centroid_lat
+    Field { position: 214, place: 1104, size: 4, stored: Storage::Float4 }, // pass_major_width
+    Field { position: 215, place: 1108, size: 4, stored: Storage::Float4 }, // pass_minor_width
+    Field { position: 216, place: 1112, size: 4, stored: Storage::Float4 }, // pass_ellipse_pt1_lon
+    Field { position: 217, place: 1116, size: 4, stored: Storage::Float4 }, // pass_ellipse_pt2_lon
+    Field { position: 218, place: 1120, size: 4, stored: Storage::Float4 }, // pass_ellipse_pt3_lon
+    Field { position: 219, place: 1124, size: 4, stored: Storage::Float4 }, // pass_ellipse_pt4_lon
+    Field { position: 220, place: 1128, size: 4, stored: Storage::Float4 }, // pass_ellipse_pt1_lat
+    Field { position: 221, place: 1132, size: 4, stored: Storage::Float4 }, // pass_ellipse_pt2_lat
+    Field { position: 222, place: 1136, size: 4, stored: Storage::Float4 }, // pass_ellipse_pt3_lat
+    Field { position: 223, place: 1140, size: 4, stored: Storage::Float4 }, // pass_ellipse_pt4_lat
+    Field { position: 224, place: 1144, size: 4, stored: Storage::Float4 }, // num_pulses_received
+    Field { position: 225, place: 1148, size: 4, stored: Storage::Float4 }, // total_echo_energy
+    Field { position: 226, place: 1152, size: 4, stored: Storage::Float4 }, // noise_echo_energy
+    Field { position: 227, place: 1156, size: 4, stored: Storage::Float4 }, // x_factor
+    Field { position: 228, place: 1160, size: 4, stored: Storage::Float4 }, // sigma0_uncorrected
+    Field { position: 229, place: 1164, size: 4, stored: Storage::Float4 }, // sigma0_corrected
+    Field { position: 230, place: 1168, size: 4, stored: Storage::Float4 }, // sigma0_uncorrected_std
+    Field { position: 231, place: 1172, size: 4, stored: Storage::Float4 }, // surface_height
+    Field { position: 232, place: 1176, size: 4, stored: Storage::Float4 }, // surf_ht_std
+    Field { position: 233, place: 1180, size: 4, stored: Storage::Float4 }, // act_geom_time_offset
+    Field { position: 234, place: 1184, size: 4, stored: Storage::Float4 }, // act_pol_angle
+    Field { position: 235, place: 1188, size: 4, stored: Storage::Float4 }, // act_incidence_angle
+    Field { position: 236, place: 1192, size: 4, stored: Storage::Float4 }, // act_azimuth_angle
+    Field { position: 237, place: 1196, size: 4, stored: Storage::Float4 }, // act_centroid_lon
+    Field { position: 238, place: 1200, size: 4, stored: Storage::Float4 }, // act_centroid_lat
+    Field { position: 239, place: 1204, size: 4, stored: Storage::Float4 }, // act_major_width
+    Field { position: 240, place: 1208, size: 4, stored: Storage::Float4 }, // act_minor_width
+    Field { position: 241, place: 1212, size: 4, stored: Storage::Float4 }, // act_ellipse_pt1_lon
+    Field { position: 242, place: 1216, size: 4, stored: Storage::Float4 }, // act_ellipse_pt2_lon
+    Field { position: 243, place: 1220, size: 4, stored: Storage::Float4 }, // act_ellipse_pt3_lon
+    Field { position: 244, place: 1224, size: 4, stored: Storage::Float4 }, // act_ellipse_pt4_lon
+    Field { position: 245, place: 1228, size: 4, stored: Storage::Float4 }, // act_ellipse_pt1_lat
+    Field { position: 246, place: 1232, size: 4, stored: Storage::Float4 }, // act_ellipse_pt2_lat
+    Field { position: 247, place: 1236, size: 4, stored: Storage::Float4 }, // act_ellipse_pt3_lat
+    Field { position: 248, place: 1240, size: 4, stored: Storage::Float4 }, // act_ellipse_pt4_lat
+    Field { position: 249, place: 1244, size: 4, stored: Storage::Float4 }, // altimeter_profile_range_start
+    Field { position: 250, place: 1248, size: 4, stored: Storage::Float4 }, // altimeter_profile_range_step
+    Field { position: 251, place: 1252, size: 4, stored: Storage::Unsigned }, // altimeter_profile_length
+    Field { position: 252, place: 1256, size: 4, stored: Storage::Float4 }, // sar_azimuth_res
+    Field { position: 253, place: 1260, size: 4, stored: Storage::Float4 }, // sar_range_res
+    Field { position: 254, place: 1264, size: 4, stored: Storage::Float4 }, // sar_centroid_bidr_lon
+    Field { position: 255, place: 1268, size: 4, stored: Storage::Float4 }, // sar_centroid_bidr_lat
+];
 
-// What stands behind the table's last word.
-fn none(block: usize) -> usize
-    requires { Others 64 block }
-    ensures { result ≡ word_at block }
+// The fields in their order, lent and not copied.
+#[tactic(auto, unfolding(crate::specs::Layout::layout))]
+fn fields() -> &'static [Field]
+    ensures { result.now ≡ layout }
 {
-    0
-}
-
-// Section 8.1 in its order, four fields a word, from position 0 on, which no field has. A field is four
-// hexadecimal digits: three of its place in the row, and one of its type and size: 0 unsigned, 1 signed,
-// 2 a float of 4 bytes, 3 a float of 8 bytes, 4 text of 16 bytes, 5 text of 24 bytes. The compiler makes
-// stored data of this, as it does not of an array.
-fn word(block: usize) -> usize
-    ensures { result ≡ word_at block }
-{
-    match block {
-        0 => 0x0000_0000_0040_0080, // sync, spacecraft_clock, burst_id
-        1 => 0x00c2_0102_0142_0180, // cds_pickup_rate, burst_start_time, header_tfi, header_tnc
-        2 => 0x01c0_0200_0240_0280, // header_typ, header_tca, header_tcb, header_tcc
-        3 => 0x02c0_0300_0340_0380, // pwri, vicc, vimc, tail_len
-        4 => 0x03c0_0400_0440_0480, // tail_id, sab_counter, sab_len, fswm
-        5 => 0x04c0_0500_0540_0580, // fswc, ctbc, rx_window_pri, ctps
-        6 => 0x05c0_0600_0640_0680, // ctbe, ctps_ctbe, header_end, slow_tfi
-        7 => 0x06c0_0700_0740_0780, // data_take_number, slow_typ, calibration_source, radar_mode
-        8 => 0x07c0_0800_0840_0882, // sin, bem, baq_mode, tro
-        9 => 0x08c2_0902_0942_0982, // receiver_bandwidth, adc_rate, at1_tot, at3_tot
-        10 => 0x09c2_0a00_0a40_0a80, // at4_tot, at1_each, at3_each, at4_each
-        11 => 0x0ac2_0b02_0b40_0b80, // antenna_int_period, chirp_time_step, num_rad_meas, num_chirp_steps
-        12 => 0x0bc2_0c02_0c42_0c80, // chirp_length, chirp_freq_step, fast_tfi, fin
-        13 => 0x0cc0_0d00_0d40_0d82, // fast_type, num_pulses, bii, burst_period
-        14 => 0x0dc2_0e02_0e42_0e80, // pri, rx_window_delay, chirp_start_freq, iebtth
-        15 => 0x0ec0_0f00_0f40_0f80, // iebtll, bgcalls, delvmn, delvda
-        16 => 0x0fc0_1000_1040_1080, // delvyr, raw_res_load_meas, raw_antenna_meas, raw_noise_diode_meas
-        17 => 0x10c0_1100_1140_1182, // eout, subr, space_craft_time, noise_diode_int_period
-        18 => 0x11c2_1202_1242_1282, // res_load_int_period, fwdtmp, be1tmp, be2tmp
-        19 => 0x12c2_1302_1342_1382, // be3tmp, be4tmp, be5tmp, diptmp
-        20 => 0x13c2_1402_1442_1482, // rlotmp, tadcal1, nsdtmp, lnatmp
-        21 => 0x14c2_1502_1542_1582, // evdtmp, mratmp, mruttm, dcgttm
-        22 => 0x15c2_1602_1642_1682, // cucttm, twttmp, epctmp, tw1ttm
-        23 => 0x16c2_1702_1742_1782, // ep1ttm, p_stmp, p_sttm, fguttm
-        24 => 0x17c2_1802_1842_1882, // tadcal4, esstmp, wgb1t1, wgb3t1
-        25 => 0x18c2_1902_1942_1982, // wgb3t2, wgb3t3, wgb5t1, pcutmp
-        26 => 0x19c2_1a02_1a42_1a82, // adctmp, tadcal2, ecltmp, cputmp
-        27 => 0x1ac2_1b02_1b42_1b82, // memtmp, sadctmp, tadcal3, frwdpw
-        28 => 0x1bc2_1c02_1c42_1c82, // dcgmon, lpltlm, nsdcur, hpapsm
-        29 => 0x1cc2_1d02_1d42_1d82, // catcur, p_smon, svlsta, usotmp
-        30 => 0x1dc2_1e02_1e42_1e82, // cpbnkv, essvlt, tadcal5, pcu5v_pos
-        31 => 0x1ec2_1f02_1f42_1f82, // pcu5i_pos, pcu5v_neg, pcu5i_neg, pcu15v_pos
-        32 => 0x1fc2_2002_2042_2082, // pcu15i_pos, pcu15v_neg, pcu15i_neg, pcu12v_neg
-        33 => 0x20c2_2102_2142_2182, // pcu12i_neg, pcucur, pllmon, ctu5i
-        34 => 0x21c2_2202_2242_2282, // tadcal6, pcu9v_pos, pcu9i_pos, pcu9v_neg
-        35 => 0x22c2_2302_2342_2380, // pcu9i_neg, tadcal7, shpttm, num_bursts_in_flight
-        36 => 0x23c0_2402_2440_2483, // raw_active_mode_length, raw_active_mode_rms, engineer_qual_flag, t_sc_clock
-        37 => 0x2503_2585_2705_2883, // t_ephem_time, t_utc_ymd, t_utc_doy, transmit_time_offset
-        38 => 0x2903_2983_2a04_2b05, // time_from_closest_approach, time_from_epoch, target_name, tbf_frame_name
-        39 => 0x2c83_2d03_2d83_2e03, // pole_right_ascension, pole_declination, target_rotation_rate, target_rotation_angle
-        40 => 0x2e82_2ec2_2f02_2f40, // scwg_tmp, feed_tmp, hga_tmp, beam_number
-        41 => 0x2f83_3003_3083_3103, // sc_pos_j2000_x, sc_pos_j2000_y, sc_pos_j2000_z, sc_vel_j2000_x
-        42 => 0x3183_3203_3283_3303, // sc_vel_j2000_y, sc_vel_j2000_z, sc_pos_target_x, sc_pos_target_y
-        43 => 0x3383_3403_3483_3503, // sc_pos_target_z, sc_vel_target_x, sc_vel_target_y, sc_vel_target_z
-        44 => 0x3583_3603_3683_3703, // sc_x_axis_j2000_x, sc_x_axis_j2000_y, sc_x_axis_j2000_z, sc_y_axis_j2000_x
-        45 => 0x3783_3803_3883_3903, // sc_y_axis_j2000_y, sc_y_axis_j2000_z, sc_z_axis_j2000_x, sc_z_axis_j2000_y
-        46 => 0x3983_3a03_3a83_3b03, // sc_z_axis_j2000_z, sc_x_axis_target_x, sc_x_axis_target_y, sc_x_axis_target_z
-        47 => 0x3b83_3c03_3c83_3d03, // sc_y_axis_target_x, sc_y_axis_target_y, sc_y_axis_target_z, sc_z_axis_target_x
-        48 => 0x3d83_3e03_3e83_3f03, // sc_z_axis_target_y, sc_z_axis_target_z, rot_vel_j2000_x, rot_vel_j2000_y
-        49 => 0x3f83_4003_4083_4103, // rot_vel_j2000_z, rot_vel_target_x, rot_vel_target_y, rot_vel_target_z
-        50 => 0x4182_41c2_4202_4241, // norm_cnt_rl, norm_cnt_nd, norm_cnt_radio, science_qual_flag
-        51 => 0x4282_42c2_4302_4342, // system_gain, antenna_temp, receiver_temp, ant_temp_std
-        52 => 0x4382_43c2_4402_4442, // pass_geom_time_offset, pass_pol_angle, pass_emission_angle, pass_azimuth_angle
-        53 => 0x4482_44c2_4502_4542, // pass_centroid_lon, pass_centroid_lat, pass_major_width, pass_minor_width
-        54 => 0x4582_45c2_4602_4642, // pass_ellipse_pt1_lon, pass_ellipse_pt2_lon, pass_ellipse_pt3_lon, pass_ellipse_pt4_lon
-        55 => 0x4682_46c2_4702_4742, // pass_ellipse_pt1_lat, pass_ellipse_pt2_lat, pass_ellipse_pt3_lat, pass_ellipse_pt4_lat
-        56 => 0x4782_47c2_4802_4842, // num_pulses_received, total_echo_energy, noise_echo_energy, x_factor
-        57 => 0x4882_48c2_4902_4942, // sigma0_uncorrected, sigma0_corrected, sigma0_uncorrected_std, surface_height
-        58 => 0x4982_49c2_4a02_4a42, // surf_ht_std, act_geom_time_offset, act_pol_angle, act_incidence_angle
-        59 => 0x4a82_4ac2_4b02_4b42, // act_azimuth_angle, act_centroid_lon, act_centroid_lat, act_major_width
-        60 => 0x4b82_4bc2_4c02_4c42, // act_minor_width, act_ellipse_pt1_lon, act_ellipse_pt2_lon, act_ellipse_pt3_lon
-        61 => 0x4c82_4cc2_4d02_4d42, // act_ellipse_pt4_lon, act_ellipse_pt1_lat, act_ellipse_pt2_lat, act_ellipse_pt3_lat
-        62 => 0x4d82_4dc2_4e02_4e40, // act_ellipse_pt4_lat, altimeter_profile_range_start, altimeter_profile_range_step, altimeter_profile_length
-        63 => 0x4e82_4ec2_4f02_4f42, // sar_azimuth_res, sar_range_res, sar_centroid_bidr_lon, sar_centroid_bidr_lat
-        _ => none(block),
-    }
-}
-
-// The digits of the field at a position.
-fn digits_of(position: usize) -> usize
-    ensures { result ≡ digits_at position }
-{
-    let shift = 48 - 16 * (position % 4);
-    (word(position / 4) >> shift) % 65536
-}
-
-// The type that a digit stands for.
-fn type_of(digit: usize) -> Storage
-    ensures { result ≡ type_of digit }
-{
-    match digit {
-        0 => Storage::Unsigned,
-        1 => Storage::Signed,
-        2 => Storage::Float4,
-        3 => Storage::Float8,
-        _ => Storage::Text,
-    }
-}
-
-// The size that a digit stands for.
-fn size_of(digit: usize) -> usize
-    ensures { result ≡ size_of digit }
-{
-    match digit {
-        3 => 8,
-        4 => 16,
-        5 => 24,
-        _ => 4,
-    }
+    &LAYOUT
 }
 
 // The field at a position of section 8.1, counted from 1; a position that the section does not have is
@@ -156,18 +303,7 @@ fn size_of(digit: usize) -> usize
 pub fn line_of(position: usize) -> Result<Field, Refused>
     ensures { told result ≡ field_at position }
 {
-    if position == 0 {
-        return Err(Refused(Refusal::Unknown, 0));
-    }
-    if FIELDS < position {
-        return Err(Refused(Refusal::Unknown, 0));
-    }
-    let digits = digits_of(position);
-    let digit = digits % 16;
-    Ok(Field {
-        position,
-        place: digits / 16,
-        size: size_of(digit),
-        stored: type_of(digit),
-    })
+    let unknown = Refused(Refusal::Unknown, 0);
+    let i = position.checked_sub(1).ok_or(unknown)?;
+    fields().get(i).copied().ok_or(unknown)
 }

@@ -6,9 +6,12 @@ use native.Mathlib.Decide.{dec_le}
 use native.Mathlib.Omega.{arith}
 use mathlib.Core.Path.{◌≡◌, ◌∙◌, sym, ap, ap₂}
 use mathlib.Core.Bool.{Bool, true, false}
+use mathlib.Core.List.{List}
+use lib.ListN.{get_or}
 use lib.Dec.{ltb}
 use lib.Bits.{bit_and, and_block, and_mask}
 use borrow.Author.Tests.{lt-ltb, le-ltb}
+use Rattle.std.specs.Int.{w64, from_le_bytes}
 use Rattle.dots.specs.Tone.{tone}
 use Rattle.dots.specs.Dot.{is_dot, bit}
 use Rattle.dots.specs.Matrix.{level}
@@ -24,22 +27,22 @@ by_lanes p q r s m hp hq hr hm =
     (and_block 16 (s * 65536 + r) (m * 65536 + m) q m hq hm
     ∙ ap (λ (w : ℕ). w * 65536 + bit_and q m) (and_block 16 s m r m hr hm))
 
--- the odd bytes of a word
-pub odd_bytes : (a b c d e f g h : ℕ) → a < 256 → b < 256 → c < 256 → d < 256 → e < 256 → f < 256 → g < 256 → h < 256
-    → bit_and (lanes (a + 256 * b) (c + 256 * d) (e + 256 * f) (g + 256 * h) / 256) 71777214294589695 ≡ lanes b d f h
-odd_bytes a b c d e f g h ha hb hc hd he hf hg hh =
-    ap (λ (w : ℕ). bit_and w 71777214294589695) lower
-    ∙ by_lanes (b + 256 * c) (d + 256 * e) (f + 256 * g) h 255 (omega arith) (omega arith) (omega arith) (omega arith)
-    ∙ masked
-  where
-    lower : lanes (a + 256 * b) (c + 256 * d) (e + 256 * f) (g + 256 * h) / 256 ≡ lanes (b + 256 * c) (d + 256 * e) (f + 256 * g) h
-    lower = omega arith
+-- four numbers of two bytes each: their low bytes and their high bytes
+module _ (a b c d e f g h : ℕ) (ha : a < 256) (hb : b < 256) (hc : c < 256) (hd : d < 256) (he : e < 256) (hf : f < 256) (hg : g < 256) (hh : h < 256) where
+  byte : (x y : ℕ) → x < 256 → bit_and (x + 256 * y) 255 ≡ x
+  byte x y k = and_mask (x + 256 * y) 8 ∙ omega arith
 
-    byte : (x y : ℕ) → x < 256 → bit_and (x + 256 * y) 255 ≡ x
-    byte x y k = and_mask (x + 256 * y) 8 ∙ omega arith
+  pub low_bytes : bit_and (lanes (a + 256 * b) (c + 256 * d) (e + 256 * f) (g + 256 * h)) 71777214294589695 ≡ lanes a c e g
+  low_bytes =
+      by_lanes (a + 256 * b) (c + 256 * d) (e + 256 * f) (g + 256 * h) 255 (omega arith) (omega arith) (omega arith) (omega arith)
+      ∙ omega (arith, byte a b ha, byte c d hc, byte e f he, byte g h hg)
 
-    masked : lanes (bit_and (b + 256 * c) 255) (bit_and (d + 256 * e) 255) (bit_and (f + 256 * g) 255) (bit_and h 255) ≡ lanes b d f h
-    masked = omega (arith, byte b c hb, byte d e hd, byte f g hf, and_mask h 8, hh)
+  pub high_bytes : bit_and (lanes (a + 256 * b) (c + 256 * d) (e + 256 * f) (g + 256 * h) / 256) 71777214294589695 ≡ lanes b d f h
+  high_bytes =
+      ap (λ (w : ℕ). bit_and w 71777214294589695)
+      {x = lanes (a + 256 * b) (c + 256 * d) (e + 256 * f) (g + 256 * h) / 256} {y = lanes (b + 256 * c) (d + 256 * e) (f + 256 * g) h} (omega arith)
+      ∙ by_lanes (b + 256 * c) (d + 256 * e) (f + 256 * g) h 255 (omega arith) (omega arith) (omega arith) (omega arith)
+      ∙ omega (arith, byte b c hb, byte d e hd, byte f g hf, and_mask h 8)
 
 -- bit 8 of each of four numbers
 pub high_bits : (p q r s : ℕ) → p < 512 → q < 512 → r < 512 → s < 512
@@ -116,92 +119,57 @@ bit_small false = omega arith
 
 -- ---- the words of the code
 
--- eight samples
-pub record Eight : Type 0 where
-  pub a : ℕ
-  pub b : ℕ
-  pub c : ℕ
-  pub d : ℕ
-  pub e : ℕ
-  pub f : ℕ
-  pub g : ℕ
-  pub h : ℕ
+-- the words of eight samples
+module _ (v : List ℕ) (small : (i : ℕ) → get_or v i 0 < 256) where
+  abbrev at : ℕ → ℕ
+  at i = get_or v i 0
 
-pub record Bytes (v : Eight) : Type 0 where
-  pub a : v.a < 256
-  pub b : v.b < 256
-  pub c : v.c < 256
-  pub d : v.d < 256
-  pub e : v.e < 256
-  pub f : v.f < 256
-  pub g : v.g < 256
-  pub h : v.h < 256
+  as_lanes : from_le_bytes w64 v ≡ lanes (at 0 + 256 * at 1) (at 2 + 256 * at 3) (at 4 + 256 * at 5) (at 6 + 256 * at 7)
+  as_lanes = omega arith
 
--- the word of them, and its odd bytes
-pub record Split (v : Eight) (word odd : ℕ) : Type 0 where
-  pub odd_is : odd ≡ lanes v.b v.d v.f v.h
-  pub inside : 256 * odd ≤ word
-  pub even_is : word - 256 * odd ≡ lanes v.a v.c v.e v.g
+  module _ (word : ℕ) (is : word ≡ from_le_bytes w64 v) where
+    pub of_even : bit_and word 71777214294589695 ≡ lanes (at 0) (at 2) (at 4) (at 6)
+    of_even =
+        ap (λ (w : ℕ). bit_and w 71777214294589695) (is ∙ as_lanes)
+        ∙ low_bytes (at 0) (at 1) (at 2) (at 3) (at 4) (at 5) (at 6) (at 7) (small 0) (small 1) (small 2) (small 3) (small 4) (small 5) (small 6) (small 7)
 
-module _ (v : Eight) (small : Bytes v) (word odd : ℕ) where
-  pub splits : word ≡ lanes (v.a + 256 * v.b) (v.c + 256 * v.d) (v.e + 256 * v.f) (v.g + 256 * v.h)
-      → odd ≡ bit_and (word / 256) 71777214294589695 → Split v word odd
-  splits is masks =
-      let o : odd ≡ lanes v.b v.d v.f v.h =
-      masks
-      ∙ ap (λ (w : ℕ). bit_and (w / 256) 71777214294589695) is
-      ∙ odd_bytes v.a v.b v.c v.d v.e v.f v.g v.h
-      small.a small.b small.c small.d small.e small.f small.g small.h in
-      record { odd_is = o; inside = omega (arith, o, is); even_is = omega (arith, o, is) }
+    pub of_odd : bit_and (word / 256) 71777214294589695 ≡ lanes (at 1) (at 3) (at 5) (at 7)
+    of_odd =
+        ap (λ (w : ℕ). bit_and (w / 256) 71777214294589695) (is ∙ as_lanes)
+        ∙ high_bytes (at 0) (at 1) (at 2) (at 3) (at 4) (at 5) (at 6) (at 7) (small 0) (small 1) (small 2) (small 3) (small 4) (small 5) (small 6) (small 7)
 
-  module _ (split : Split v word odd) (y even_cuts odd_cuts : ℕ) (even_are : even_cuts ≡ cuts_from 0 y) (odd_are : odd_cuts ≡ cuts_from 1 y) where
-    pub even_enough : word - 256 * odd ≤ even_cuts
-    unfolding cuts_from
-    even_enough =
-        le_trans (le_of_eq split.even_is)
-        (le_trans
-        (enough v.a v.c v.e v.g (cut (level y 0)) (cut (level y 2)) (cut (level y 4)) (cut (level y 6))
-        small.a small.c small.e small.g (cut_small y 0) (cut_small y 2) (cut_small y 4) (cut_small y 6))
-        (le_of_eq (sym even_are)))
+  module _ (y : ℕ) where
+    -- the dot of a column, by its cut and by its tone
+    abbrev dot : ℕ → ℕ
+    dot i = bit (is_dot (tone (at i)) i y)
 
-    pub odd_enough : odd ≤ odd_cuts
-    unfolding cuts_from
-    odd_enough =
-        le_trans (le_of_eq split.odd_is)
-        (le_trans
-        (enough v.b v.d v.f v.h (cut (level y 1)) (cut (level y 3)) (cut (level y 5)) (cut (level y 7))
-        small.b small.d small.f small.h (cut_small y 1) (cut_small y 3) (cut_small y 5) (cut_small y 7))
-        (le_of_eq (sym odd_are)))
+    by_cut : (i : ℕ) → bit (ltb (at i) (cut (level y i))) ≡ dot i
+    by_cut i = ap bit (below_the_cut (at i) (level y i) (small i))
 
-    pub even_dots : bit_and ((even_cuts - (word - 256 * odd)) / 256) 281479271743489
-        ≡ lanes (bit (ltb v.a (cut (level y 0)))) (bit (ltb v.c (cut (level y 2)))) (bit (ltb v.e (cut (level y 4)))) (bit (ltb v.g (cut (level y 6))))
-    unfolding cuts_from
-    even_dots =
-        ap₂ (λ (k w : ℕ). bit_and ((k - w) / 256) 281479271743489) even_are split.even_is
-        ∙ four_compared v.a v.c v.e v.g (cut (level y 0)) (cut (level y 2)) (cut (level y 4)) (cut (level y 6))
-        small.a small.c small.e small.g (cut_small y 0) (cut_small y 2) (cut_small y 4) (cut_small y 6)
+    -- of each second column from x on: enough is there, and the dots
+    module _ (x cuts samples : ℕ) (are : cuts ≡ cuts_from x y) (is : samples ≡ lanes (at x) (at (x + 2)) (at (x + 4)) (at (x + 6))) where
+      pub cuts_enough : samples ≤ cuts
+      unfolding cuts_from
+      cuts_enough =
+          le_trans (le_of_eq is)
+          (le_trans
+          (enough (at x) (at (x + 2)) (at (x + 4)) (at (x + 6)) (cut (level y x)) (cut (level y (x + 2))) (cut (level y (x + 4))) (cut (level y (x + 6)))
+          (small x) (small (x + 2)) (small (x + 4)) (small (x + 6)) (cut_small y x) (cut_small y (x + 2)) (cut_small y (x + 4)) (cut_small y (x + 6)))
+          (le_of_eq (sym are)))
 
-    pub odd_dots : bit_and ((odd_cuts - odd) / 256) 281479271743489
-        ≡ lanes (bit (ltb v.b (cut (level y 1)))) (bit (ltb v.d (cut (level y 3)))) (bit (ltb v.f (cut (level y 5)))) (bit (ltb v.h (cut (level y 7))))
-    unfolding cuts_from
-    odd_dots =
-        ap₂ (λ (k w : ℕ). bit_and ((k - w) / 256) 281479271743489) odd_are split.odd_is
-        ∙ four_compared v.b v.d v.f v.h (cut (level y 1)) (cut (level y 3)) (cut (level y 5)) (cut (level y 7))
-        small.b small.d small.f small.h (cut_small y 1) (cut_small y 3) (cut_small y 5) (cut_small y 7)
+      pub dots_left : bit_and ((cuts - samples) / 256) 281479271743489 ≡ lanes (dot x) (dot (x + 2)) (dot (x + 4)) (dot (x + 6))
+      unfolding cuts_from
+      dots_left =
+          ap₂ (λ (k w : ℕ). bit_and ((k - w) / 256) 281479271743489) are is
+          ∙ four_compared (at x) (at (x + 2)) (at (x + 4)) (at (x + 6)) (cut (level y x)) (cut (level y (x + 2))) (cut (level y (x + 4))) (cut (level y (x + 6)))
+          (small x) (small (x + 2)) (small (x + 4)) (small (x + 6)) (cut_small y x) (cut_small y (x + 2)) (cut_small y (x + 4)) (cut_small y (x + 6))
+          ∙ omega (arith, by_cut x, by_cut (x + 2), by_cut (x + 4), by_cut (x + 6))
 
-    -- a column's dot, by its cut and by its tone
-    by_tone : (s x : ℕ) → s < 256 → bit (ltb s (cut (level y x))) ≡ bit (is_dot (tone s) x y)
-    by_tone s x h = ap bit (below_the_cut s (level y x) h)
-
-    pub dots_gathered : (even_bits odd_bits : ℕ) → even_bits ≡ bit_and ((even_cuts - (word - 256 * odd)) / 256) 281479271743489
-        → odd_bits ≡ bit_and ((odd_cuts - odd) / 256) 281479271743489
-        → gathered (2 * even_bits + odd_bits) ≡ dots_of y v.a v.b v.c v.d v.e v.f v.g v.h
+    pub dots_gathered : (even odd : ℕ) → even ≡ lanes (dot 0) (dot 2) (dot 4) (dot 6) → odd ≡ lanes (dot 1) (dot 3) (dot 5) (dot 7)
+        → gathered (2 * even + odd) ≡ dots_of y v
     unfolding dots_of
-    dots_gathered even_bits odd_bits p q =
-        ap₂ (λ (m n : ℕ). gathered (2 * m + n)) (p ∙ even_dots) (q ∙ odd_dots)
-        ∙ gathers
-        (bit (ltb v.a (cut (level y 0)))) (bit (ltb v.b (cut (level y 1)))) (bit (ltb v.c (cut (level y 2)))) (bit (ltb v.d (cut (level y 3))))
-        (bit (ltb v.e (cut (level y 4)))) (bit (ltb v.f (cut (level y 5)))) (bit (ltb v.g (cut (level y 6)))) (bit (ltb v.h (cut (level y 7))))
-        (bit_small (ltb v.a (cut (level y 0)))) (bit_small (ltb v.b (cut (level y 1)))) (bit_small (ltb v.c (cut (level y 2)))) (bit_small (ltb v.d (cut (level y 3))))
-        (bit_small (ltb v.e (cut (level y 4)))) (bit_small (ltb v.f (cut (level y 5)))) (bit_small (ltb v.g (cut (level y 6)))) (bit_small (ltb v.h (cut (level y 7))))
-        ∙ omega (arith, by_tone v.a 0 small.a, by_tone v.b 1 small.b, by_tone v.c 2 small.c, by_tone v.d 3 small.d, by_tone v.e 4 small.e, by_tone v.f 5 small.f, by_tone v.g 6 small.g, by_tone v.h 7 small.h)
+    dots_gathered even odd p q =
+        ap₂ (λ (m n : ℕ). gathered (2 * m + n)) p q
+        ∙ gathers (dot 0) (dot 1) (dot 2) (dot 3) (dot 4) (dot 5) (dot 6) (dot 7)
+        (bit_small (is_dot (tone (at 0)) 0 y)) (bit_small (is_dot (tone (at 1)) 1 y)) (bit_small (is_dot (tone (at 2)) 2 y)) (bit_small (is_dot (tone (at 3)) 3 y))
+        (bit_small (is_dot (tone (at 4)) 4 y)) (bit_small (is_dot (tone (at 5)) 5 y)) (bit_small (is_dot (tone (at 6)) 6 y)) (bit_small (is_dot (tone (at 7)) 7 y))

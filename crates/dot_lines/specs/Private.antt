@@ -1,9 +1,10 @@
 -- Cited only by promises of private functions: eight samples compared with eight numbers at once, four in each of two words, and the
 -- eight bits gathered in a byte.
-use Rattle.std.specs.Prelude.{ℕ, ◌+◌, ◌*◌, ◌/◌, ◌%◌, cond, List, length, get_or, ltb}
+use Rattle.std.specs.Prelude.{ℕ, ◌+◌, ◌*◌, ◌/◌, ◌%◌, List, get_or}
 use Rattle.dots.specs.Tone.{tone}
 use Rattle.dots.specs.Matrix.{level}
 use Rattle.dots.specs.Dot.{is_dot, bit}
+use Rattle.dot_lines.specs.Line.{eight}
 
 -- the least sample whose tone is not below 4·M + 2: the least s with (4·M + 2)·(4·M + 2) ≤ 255·s
 abbrev pub cut : ℕ → ℕ
@@ -25,11 +26,5 @@ abbrev pub gathered : ℕ → ℕ
 gathered w = (4 * folded w + folded w / 65536) % 256
 
 -- the dots of eight samples at columns 0 to 7 of row y, as a byte
-unfoldable pub dots_of : ℕ → ℕ → ℕ → ℕ → ℕ → ℕ → ℕ → ℕ → ℕ → ℕ
-dots_of y a b c d e f g h =
-    128 * bit (is_dot (tone a) 0 y) + 64 * bit (is_dot (tone b) 1 y) + 32 * bit (is_dot (tone c) 2 y) + 16 * bit (is_dot (tone d) 3 y)
-    + 8 * bit (is_dot (tone e) 4 y) + 4 * bit (is_dot (tone f) 5 y) + 2 * bit (is_dot (tone g) 6 y) + bit (is_dot (tone h) 7 y)
-
--- the sample at column x, and behind the last one the largest sample, which sets no dot
-abbrev pub sample_at : List ℕ → ℕ → ℕ
-sample_at window x = cond (ltb x (length window)) (get_or window x 0) 255
+unfoldable pub dots_of : ℕ → List ℕ → ℕ
+dots_of y samples = eight (λ i. bit (is_dot (tone (get_or samples i 0)) i y))

@@ -8,14 +8,15 @@
 #![tactic(auto)]
 
 ghost use Rattle.answer.specs.Told.{told};
-ghost use Rattle.std.specs.Prelude.{◌≡◌, ◌++◌, ℕ, ◌+◌, ◌*◌, ◌/◌, ◌≤◌, ◌<◌, length, drop};
+ghost use Rattle.std.specs.Prelude.{◌≡◌, ◌++◌, ℕ, ◌+◌, ◌/◌, ◌≤◌, ◌<◌, length, drop, slice_index_or};
 ghost use Rattle.std.specs.Int.Bits.{bit_and};
 ghost use Rattle.answer.specs.Filled.{Writes};
 ghost use Rattle.dots.specs.Matrix.{level};
-ghost use Rattle.dot_lines.specs.Line.{line_bytes, line_byte, line, line_into};
-ghost use Rattle.dot_lines.specs.Private.{cut, lanes as lanes_of, cuts_from, gathered, dots_of, sample_at};
+ghost use Rattle.dot_lines.specs.Line.{line_bytes, line, line_into};
+ghost use Rattle.dot_lines.specs.Private.{cut, lanes as lanes_of, cuts_from, gathered, dots_of};
 
 use answer::{Refusal, Refused};
+use std::array;
 
 // 255 and 1 in each of four numbers of 16 bits.
 const BYTES: usize = 0x00ff_00ff_00ff_00ff;
@@ -29,7 +30,7 @@ const WHITE: u8 = 255;
 pub fn line_bytes(c: usize) -> usize
     ensures { result ≡ line_bytes c }
 {
-    c / 8 + (c % 8 + 7) / 8
+    c.div_ceil(8)
 }
 
 // Four numbers of 16 bits in a word, the first of them lowest.
@@ -46,10 +47,12 @@ fn cut_at(x: usize, y: usize) -> usize
     ensures { (result ≡ 255 + cut (level y x)) × (result < 65536) }
 {
     let threshold = 4 * dots::matrix_at(x, y) + 2;
+    // `div_ceil` is slower: 24 ns in place of 18 for a line of 13 dots.
     255 + (threshold * threshold + 254) / 255
 }
 
 // Those of four columns: of each second one, from `x` on.
+#[tactic(auto, unfolding(crate::specs::Private::cuts_from))]
 fn cuts_from(x: usize, y: usize) -> usize
     requires { x < 2 }
     ensures { result ≡ cuts_from x y }
@@ -60,13 +63,6 @@ fn cuts_from(x: usize, y: usize) -> usize
         cut_at(x + 4, y),
         cut_at(x + 6, y),
     )
-}
-
-// Two samples in a number of 16 bits.
-fn pair(a: u8, b: u8) -> usize
-    ensures { (result ≡ a + 256 * b) × (result < 65536) }
-{
-    answer::wide(a) + 256 * answer::wide(b)
 }
 
 // The bits of a word that the mask has, eight places lower.
@@ -85,68 +81,47 @@ fn gather(word: usize) -> u8
     ((4 * folded + folded / 65536) % 256) as u8
 }
 
-// The dots of eight samples of row `y`, whose cuts these are: four samples are taken from four cuts at once, and
-// what is left of a cut has its bit 8 set where the sample sets a dot.
-fn eight_dots(a: u8, b: u8, c: u8, d: u8, e: u8, f: u8, g: u8, h: u8, even: usize, odd: usize) -> u8
-    requires { (y : ℕ) × (even ≡ cuts_from 0 y) × (odd ≡ cuts_from 1 y) }
-    ensures { (y : ℕ) → even ≡ cuts_from 0 y → odd ≡ cuts_from 1 y → result ≡ dots_of y a b c d e f g h }
-{
-    let word = lanes(pair(a, b), pair(c, d), pair(e, f), pair(g, h));
-    let of_odd = masked(word, BYTES);
-    let of_even = word - 256 * of_odd;
-    let even_dots = masked(even - of_even, ONES);
-    let odd_dots = masked(odd - of_odd, ONES);
-    gather(2 * even_dots + odd_dots)
+// What the samples of a row are compared with: the numbers of the even columns, and those of the odd ones. The
+// row is read by contracts alone.
+#[derive(Clone, Copy)]
+struct Cuts {
+    row: usize,
+    even: usize,
+    odd: usize,
+    ghost even_of_row: { even ≡ cuts_from 0 row },
+    ghost odd_of_row: { odd ≡ cuts_from 1 row },
 }
 
-// Byte `j` of a line, where all eight dots have their samples.
-fn full_byte(samples: &[u8], j: usize, even: usize, odd: usize) -> u8
-    requires { (8 * j + 8 ≤ length samples.now) × ((y : ℕ) × (even ≡ cuts_from 0 y) × (odd ≡ cuts_from 1 y)) }
-    ensures { (y : ℕ) → even ≡ cuts_from 0 y → odd ≡ cuts_from 1 y → result ≡ line_byte y samples.now j }
-{
-    let at = 8 * j;
-    eight_dots(
-        samples[at],
-        samples[at + 1],
-        samples[at + 2],
-        samples[at + 3],
-        samples[at + 4],
-        samples[at + 5],
-        samples[at + 6],
-        samples[at + 7],
-        even,
-        odd,
-    )
-}
-
-// The sample at column `x`; behind the last one a sample that sets no dot.
-fn sample_at(samples: &[u8], x: usize) -> u8
-    ensures { result ≡ sample_at samples.now x }
-{
-    if x < samples.len() {
-        return samples[x];
+impl Cuts {
+    fn of_row(row: usize) -> Cuts
+        ensures { result.row ≡ row }
+    {
+        Cuts {
+            row,
+            even: cuts_from(0, row),
+            odd: cuts_from(1, row),
+        }
     }
-    WHITE
+
+    // The dots of eight samples: four samples are taken from four cuts at once, and what is left of a cut has
+    // its bit 8 set where the sample sets a dot.
+    fn dots(self, samples: &[u8; 8]) -> u8
+        ensures { result ≡ dots_of self.row samples.now }
+    {
+        let word = usize::from_le_bytes(*samples);
+        let of_odd = masked(word, BYTES);
+        let of_even = word & BYTES;
+        let even_dots = masked(self.even - of_even, ONES);
+        let odd_dots = masked(self.odd - of_odd, ONES);
+        gather(2 * even_dots + odd_dots)
+    }
 }
 
-// Byte `j` of a line, where dots may be lacking.
-fn last_byte(samples: &[u8], j: usize, even: usize, odd: usize) -> u8
-    requires { (8 * j ≤ length samples.now) × ((y : ℕ) × (even ≡ cuts_from 0 y) × (odd ≡ cuts_from 1 y)) }
-    ensures { (y : ℕ) → even ≡ cuts_from 0 y → odd ≡ cuts_from 1 y → result ≡ line_byte y samples.now j }
+// The samples of a byte whose dots are not all there: behind the last one samples that set no dot.
+fn filled_up(samples: &[u8]) -> [u8; 8]
+    ensures { (i : ℕ) → i < 8 → slice_index_or result i 0 ≡ slice_index_or samples.now i 255 }
 {
-    let at = 8 * j;
-    eight_dots(
-        sample_at(samples, at),
-        sample_at(samples, at + 1),
-        sample_at(samples, at + 2),
-        sample_at(samples, at + 3),
-        sample_at(samples, at + 4),
-        sample_at(samples, at + 5),
-        sample_at(samples, at + 6),
-        sample_at(samples, at + 7),
-        even,
-        odd,
-    )
+    array::from_fn(|i| samples.get(i).copied().unwrap_or(WHITE))
 }
 
 // Writes line `y` to the front of `out`.
@@ -154,20 +129,18 @@ fn put_line(samples: &[u8], y: usize, out: &mut [u8])
     requires { line_bytes (length samples.now) ≤ length out.old }
     ensures { out.new ≡ line y samples.now ++ drop (length (line y samples.now)) out.old }
 {
-    let even = cuts_from(0, y);
-    let odd = cuts_from(1, y);
-    let whole = samples.len() / 8;
-    let mut j: usize = 0;
-    while j < whole {
-        out[j] = full_byte(samples, j, even, odd);
-        j += 1;
+    let cuts = Cuts::of_row(y);
+    let (eights, rest) = samples.as_chunks::<8>();
+    for (j, eight) in eights.iter().enumerate() {
+        out[j] = cuts.dots(eight);
     }
-    if 8 * whole < samples.len() {
-        out[whole] = last_byte(samples, whole, even, odd);
+    if !rest.is_empty() {
+        out[eights.len()] = cuts.dots(&filled_up(rest));
     }
 }
 
 // Line `y` of the dots of these samples, written to the front of `out`.
+#[tactic(auto, using(crate::proofs::Bytes::line_long), unfolding(crate::specs::Line::line_into))]
 pub fn draw_line(samples: &[u8], y: usize, out: &mut [u8]) -> Result<usize, Refused>
     ensures { Writes (line_into (length out.old) y samples.now) out.old (told result) out.new }
 {

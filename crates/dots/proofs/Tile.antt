@@ -4,33 +4,23 @@ use Prim.Native.Nat.{ℕ, zero, suc, ◌+◌, ◌-◌, ◌*◌, ◌/◌, ◌<◌
 use native.Mathlib.Omega.{arith}
 use mathlib.Core.Path.{◌≡◌, refl, ◌∙◌, ap, ap₂}
 use mathlib.Core.Bool.{true}
-use mathlib.Core.List.{List, [], ◌∷◌}
-use lib.Dec.{eqb, ltb}
+use lib.Dec.{eqb}
 use borrow.Author.Tests.{eqb-true}
 use Rattle.dots.specs.Matrix.{matrix, level}
 use Rattle.dots.specs.Dot.{is_dot, bit, total, dots_in_tile, TileLaw}
 use Rattle.dots.proofs.Tables.{all_below, below}
-use Rattle.dots.proofs.Levels.{flat, same_place}
+use Rattle.dots.proofs.Levels.{same_place}
 
 -- sums of numbers that are the same
 pub same_total : (n : ℕ) (f g : ℕ → ℕ) → ((i : ℕ) → i < n → f i ≡ g i) → total n f ≡ total n g
 same_total zero f g h = refl
 same_total (suc n) f g h = ap₂ ◌+◌ (same_total n f g (λ i k. h i (omega arith))) (h n (omega arith))
 
--- the numbers of a list that are dots for a tone
-among : ℕ → List ℕ → ℕ
-among t [] = 0
-among t (m ∷ ms) = bit (ltb t (4 * m + 2)) + among t ms
-
 in_matrix : ℕ → ℕ
 in_matrix t = total 8 (λ j. total 8 (λ i. bit (is_dot t i j)))
 
-by_matrix : (t : ℕ) → in_matrix t ≡ among t flat
-unfolding in_matrix among flat level matrix
-by_matrix t = omega arith
-
-computed : all_below 256 (λ t. eqb (among t flat) (64 - (t + 2) / 4)) ≡ true
-unfolding among flat
+computed : all_below 256 (λ t. eqb (in_matrix t) (64 - (t + 2) / 4)) ≡ true
+unfolding in_matrix level matrix
 computed = refl
 
 pub tile_law : TileLaw
@@ -43,6 +33,5 @@ tile_law = record {
       (λ i hi.
       ap (λ (s : ℕ). bit (is_dot s (8 * X + i) (8 * Y + j))) (one-tone i j hi hj)
       ∙ ap bit (same_place t (8 * X + i) (8 * Y + j) i j (omega arith) (omega arith))))
-      ∙ by_matrix t
-      ∙ eqb-true (among t flat) (64 - (t + 2) / 4) (below (λ s. eqb (among s flat) (64 - (s + 2) / 4)) 256 computed t h);
+      ∙ eqb-true (in_matrix t) (64 - (t + 2) / 4) (below (λ s. eqb (in_matrix s) (64 - (s + 2) / 4)) 256 computed t h);
 }

@@ -26,32 +26,37 @@ const TONES: [u8; 256] = [
     255,
 ];
 
-// The ordered matrix, its eight rows one after the other.
-const MATRIX: [u8; 64] = [
-    0, 32, 8, 40, 2, 34, 10, 42, 48, 16, 56, 24, 50, 18, 58, 26, 12, 44, 4, 36, 14, 46, 6, 38, 60,
-    28, 52, 20, 62, 30, 54, 22, 3, 35, 11, 43, 1, 33, 9, 41, 51, 19, 59, 27, 49, 17, 57, 25, 15,
-    47, 7, 39, 13, 45, 5, 37, 63, 31, 55, 23, 61, 29, 53, 21,
+// The ordered matrix, row by row.
+const MATRIX: [[u8; 8]; 8] = [
+    [0, 32, 8, 40, 2, 34, 10, 42],
+    [48, 16, 56, 24, 50, 18, 58, 26],
+    [12, 44, 4, 36, 14, 46, 6, 38],
+    [60, 28, 52, 20, 62, 30, 54, 22],
+    [3, 35, 11, 43, 1, 33, 9, 41],
+    [51, 19, 59, 27, 49, 17, 57, 25],
+    [15, 47, 7, 39, 13, 45, 5, 37],
+    [63, 31, 55, 23, 61, 29, 53, 21],
 ];
 
 // The tone of a sample.
+#[tactic(auto, using(crate::proofs::Curve::entry_is))]
 pub fn tone(sample: u8) -> u8
     ensures { result ≡ tone_of sample }
 {
-    let i = answer::wide(sample);
-    TONES[i]
+    TONES[usize::from(sample)]
 }
 
 // The number of the matrix for row `y` and column `x`.
+#[tactic(auto, using(crate::proofs::Levels::level_small), unfolding(crate::specs::Matrix::level, crate::specs::Matrix::matrix))]
 pub fn matrix_at(x: usize, y: usize) -> usize
     ensures { (result ≡ level y x) × (result < 64) }
 {
-    let i = 8 * (y % 8) + x % 8;
-    answer::wide(MATRIX[i])
+    usize::from(MATRIX[y % 8][x % 8])
 }
 
 // Whether the dot is set at column `x` and row `y`, where the tone is `t`.
 pub fn is_dot(t: u8, x: usize, y: usize) -> bool
     ensures { result ≡ is_dot t x y }
 {
-    answer::wide(t) < 4 * matrix_at(x, y) + 2
+    usize::from(t) < 4 * matrix_at(x, y) + 2
 }

@@ -1,19 +1,16 @@
 -- Going on from a place, case by case; and from the start of row k the row is row k, so that from the end of one row's bytes it is
 -- the next.
-use Prim.Native.Nat.{ℕ, ◌+◌, ◌*◌, ◌-◌, ◌%◌, ◌≤◌, ◌<◌}
+use Prim.Native.Nat.{ℕ, ◌+◌, ◌*◌, ◌-◌, ◌≤◌, ◌<◌}
 use native.Mathlib.Nat.{lt_of_not-le, mul-mod_right, mul-le-mul_left}
 use native.Mathlib.Decide.{dec_le}
 use native.Mathlib.Omega.{arith}
 use mathlib.Core.Path.{◌≡◌, ◌∙◌, sym, ap}
-use mathlib.Core.Bool.{true, false, ◌&&◌}
+use mathlib.Core.Bool.{true, false}
 use mathlib.Core.List.{List}
 use lib.ListN.{length}
-use lib.Dec.{leb, ltb, eqb}
-use borrow.Author.Tests.{le-leb, lt-ltb, le-ltb, ltb-true}
-use Rattle.answer.specs.Outcome.{answer, refuse, need, mapped}
-use Rattle.answer.specs.Size.{largest_file}
-use Rattle.answer.proofs.Outcomes.{after_answer, first_answered, passed, answer_injective}
-use Rattle.answer.proofs.Tests.{both_hold}
+use borrow.Author.Tests.{le-leb, lt-ltb, le-ltb}
+use Rattle.answer.specs.Outcome.{answer, refuse, mapped}
+use Rattle.answer.proofs.Outcomes.{after_answer}
 use Rattle.fixed_rows.specs.Shape.{Shape, step, row_at}
 use Rattle.fixed_rows.specs.Check.{row_count}
 use Rattle.fixed_rows.specs.Read.{find_row}
@@ -29,15 +26,6 @@ module _ (first step : ℕ) (f : List ℕ) (n : ℕ) (counted : row_count first 
 
   pub starts_nowhere : starts first step (length f) from ≡ false → start_from first step f from ≡ refuse 6 0
   starts_nowhere t = after_answer (row_count first step f) _ n counted ∙ rw t
-
--- a place where a row starts is within the size limit of a file
-pub start_within : (first step : ℕ) (f : List ℕ) (from p : ℕ) → start_from first step f from ≡ answer p → p ≤ largest_file
-start_within first step f from p e =
-    let (n, counted, q) = first_answered (row_count first step f) (λ rows. need (starts first step (length f) from) 6 (answer from)) p e in
-    let (there, is) = passed 0 (starts first step (length f) from) 6 (answer from) p q in
-    let (after, rest) = both_hold (leb first from) (ltb from (length f) && eqb ((from - first) % step) 0) there in
-    let inside = ltb-true from (length f) (both_hold (ltb from (length f)) (eqb ((from - first) % step) 0) rest).0 in
-    omega (arith, inside, answer_injective is, (accepted_is_whole first step f n counted).within)
 
 module _ (first step bytes : ℕ) where
   -- the start of a row

@@ -1,4 +1,3 @@
-pub mod Dividing
 pub mod Passing
 pub mod Accepted
 pub mod JumpIsRead

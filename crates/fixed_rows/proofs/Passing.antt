@@ -36,8 +36,9 @@ module _ (step : ℕ) where
     left = rw length-drop (omega arith)
 
     -- bytes left and no row to pass: the row starts here
-    pub arrives : passing step 0 at (drop at f) ≡ answer at
-    arrives = any_left (drop at f) (answer at) left
+    pub arrives : (k : ℕ) → k ≡ 0 → passing step k at (drop at f) ≡ answer at
+    arrives zero none = any_left (drop at f) (answer at) left
+    arrives (suc k) none = absurd (omega (arith, none))
 
     -- bytes left and rows to pass: one is passed
     pub passes_one : (k : ℕ) → 0 < k → passing step k at (drop at f) ≡ passing step (k - 1) (at + step) (drop (at + step) f)

@@ -9,13 +9,12 @@ use lib.ListN.{length}
 use lib.Dec.{ltb}
 use borrow.Author.Tests.{lt-ltb, le-ltb, ltb-true}
 use Rattle.answer.specs.Outcome.{answer, refuse, need, mapped}
-use Rattle.answer.specs.Size.{largest_file}
 use Rattle.answer.specs.declared.Shown.{Shown}
 use Rattle.answer.proofs.Outcomes.{after_answer, first_answered, mapped_answer, passed, answer_injective}
 use Rattle.fixed_rows.specs.Shape.{Shape, step, row_at}
 use Rattle.fixed_rows.specs.Check.{row_count}
 use Rattle.fixed_rows.specs.Read.{read_start, find_row}
-use Rattle.fixed_rows.specs.Jump.{row_numbered, start_of, jump_start}
+use Rattle.fixed_rows.specs.Jump.{start_of, jump_start}
 use Rattle.fixed_rows.proofs.Accepted.{accepted_is_whole}
 use Rattle.fixed_rows.proofs.JumpIsRead.{jump_at_once, jump_start_is_read_start}
 
@@ -50,12 +49,6 @@ module _ (first step : ℕ) (f : List ℕ) (k : ℕ) where
       let (below, is) = passed 0 (ltb k n) 6 (answer (start_of first step k)) p q in
       record { rows = n; counted = counted; below = ltb-true k n below; start = sym (answer_injective is) }
 
-  -- a number that a row has: the row starts in the file
-  pub numbered_inside : (m : ℕ) → row_numbered first step f k ≡ answer m → start_of first step m ≤ length f
-  numbered_inside m e =
-      let r = jumped_is_row (start_of first step m) (ap (mapped (start_of first step)) e) in
-      omega (arith, r.start, ends_inside r.rows r.counted r.below)
-
   module _ (some : 0 < step) where
     -- and what reading finds
     pub found_is_row : (p : ℕ) → read_start first step f k ≡ answer p → Found first step f k p
@@ -65,12 +58,6 @@ module _ (first step : ℕ) (f : List ℕ) (k : ℕ) where
     found_ends_inside p e =
         let r = found_is_row p e in
         omega (arith, r.start, ends_inside r.rows r.counted r.below)
-
-    -- it starts within the size limit of a file
-    pub found_within : (p : ℕ) → read_start first step f k ≡ answer p → p ≤ largest_file
-    found_within p e =
-        let r = found_is_row p e in
-        omega (arith, found_ends_inside p e, (accepted_is_whole first step f r.rows r.counted).within)
 
 module _ (s : Shape) (some : 0 < step s) (f : List ℕ) where
   module _ (n : ℕ) (e : row_count s.first (step s) f ≡ answer n) where

@@ -1,5 +1,5 @@
 // Two labelled files set end to end for one roll: the index of the joined file, from the two files and
-// their indexes, with no joined file told. Renders document 02, item 10. That the joined file is
+// their indexes, with no joined file built. Renders document 02, item 10. That the joined file is
 // accepted, and which rows it has, is stated in `specs/Joining.antt`; what holds of several rolls, and
 // of the empty file, in `specs/Rolls.antt`.
 #![tactic(auto)]
@@ -24,11 +24,7 @@ fn put_entries(entries: &[u32], list: &mut [u32])
     requires { length entries.now ≤ length list.old }
     ensures { list.new ≡ take (length entries.now) entries.now ++ drop (length entries.now) list.old }
 {
-    let mut i: usize = 0;
-    while i < entries.len() {
-        list[i] = entries[i];
-        i += 1;
-    }
+    list[..entries.len()].copy_from_slice(entries);
 }
 
 // Writes the first entries that stand in the second file, `base` bytes behind their places in it: each
@@ -46,53 +42,12 @@ fn put_further(
         × (entries ≤ length (further versions base file.now passed)) × (entries ≤ length list.old) }
     ensures { list.new ≡ take entries (further versions base file.now passed) ++ drop entries list.old }
 {
-    let mut i: usize = 0;
-    while i < entries {
+    for i in 0..entries {
         let from = index[i] as usize;
         let place = row_index::entry_from(versions, file, from, passed);
         let moved = base + place;
         list[i] = moved as u32;
-        i += 1;
     }
-}
-
-// Writes the joined index, where both lists are the files' indexes and these are their row counts.
-fn put_joined(
-    versions: Versions,
-    first: &[u8],
-    index: &[u32],
-    rows: usize,
-    second: &[u8],
-    other: &[u32],
-    more: usize,
-    list: &mut [u32],
-) -> Result<Built, Refused>
-    requires { (length first.now + length second.now ≤ largest_file)
-        × (check_index versions first.now index.now ≡ answer tt) × (check_labelled versions first.now ≡ answer rows)
-        × (check_index versions second.now other.now ≡ answer tt) × (check_labelled versions second.now ≡ answer more) }
-    ensures result_value { told result ≡ mapped built_of (build_index versions (first.now ++ second.now) (length list.old)) }
-    ensures list_after { list.new ≡ filled (mapped index_of (build_index versions (first.now ++ second.now) (length list.old)))
-        list.old }
-{
-    let all = rows + more;
-    let entries = row_index::groups(all);
-    if list.len() < entries {
-        return Err(Refused(Refusal::Small, 0));
-    }
-    let done = index.len();
-    let passed = row_index::GROUP * done - rows;
-    let left = entries - done;
-    put_entries(index, list);
-    put_further(
-        versions,
-        first.len(),
-        second,
-        other,
-        passed,
-        left,
-        &mut list[done..],
-    );
-    Ok(Built { entries, rows: all })
 }
 
 // The index of the joined file, where `index` is the first file's and `other` the second's: 14 of the
@@ -115,15 +70,25 @@ pub fn join_index(
     if answer::LARGEST_FILE < sum {
         return Err(Refused(Refusal::TooBig, 0));
     }
-    match row_index::rows_indexed(versions, first, index) {
-        Err(Refused(why, place)) => Err(Refused(why, place)),
-        Ok(rows) => {
-            match row_index::rows_indexed(versions, second, other) {
-                Err(Refused(why, place)) => Err(Refused(why, place)),
-                Ok(more) => {
-                    put_joined(versions, first, index, rows, second, other, more, list)
-                }
-            }
-        }
+    let rows = row_index::rows_indexed(versions, first, index)?;
+    let more = row_index::rows_indexed(versions, second, other)?;
+    let all = rows + more;
+    let entries = row_index::groups(all);
+    if list.len() < entries {
+        return Err(Refused(Refusal::Small, 0));
     }
+    let done = index.len();
+    let passed = row_index::GROUP * done - rows;
+    let left = entries - done;
+    put_entries(index, list);
+    put_further(
+        versions,
+        first.len(),
+        second,
+        other,
+        passed,
+        left,
+        &mut list[done..],
+    );
+    Ok(Built { entries, rows: all })
 }

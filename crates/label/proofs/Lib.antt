@@ -1,6 +1,5 @@
 pub mod ByteFour
 pub mod Spaces
-pub mod LengthField
 pub mod Reading
 pub mod Read
 pub mod Choice

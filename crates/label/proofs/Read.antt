@@ -1,11 +1,12 @@
 -- What a label that was read says of its bytes: twenty of them, of which the first twelve are its version's head and the others its
 -- version's length field; and that its version is allowed.
 use Prim.Native.Nat.{ℕ, ◌+◌, ◌*◌, ◌^◌, ◌≤◌, ◌<◌}
+use native.Mathlib.Nat.{pow-le-pow_right}
 use native.Mathlib.Omega.{arith}
 use mathlib.Core.Path.{◌≡◌, refl, ◌∙◌, sym, ap, ap₂}
 use mathlib.Core.Bool.{true, ◌&&◌}
 use mathlib.Core.List.{List, ◌++◌}
-use mathlib.Core.Option.{Option, none, some}
+use Rattle.std.specs.Prelude.{Option, None, Some}
 use lib.ListN.{length, get_or, take, drop, replicate, get_or-append, length-append, length-drop, length-replicate}
 use lib.Seq.{length-take-le, get_or-take, take-add, drop_at}
 use Rattle.answer.specs.Outcome.{answer}
@@ -17,12 +18,12 @@ use Rattle.label.specs.declared.Version.TheVariants.{One, Two}
 use Rattle.label.specs.declared.Versions.{Versions}
 use Rattle.label.specs.declared.Versions.TheVariants as choice
 use Rattle.label.specs.Version.{allows, version_for}
-use Rattle.label.specs.Length.{Length, length_of, spaces_at}
+use Rattle.label.specs.declared.Length.{Length}
+use Rattle.label.specs.Length.{length_of, spaces_at}
 use Rattle.label.specs.declared.Label.{Label}
 use Rattle.label.specs.Label.{labelled, with_length, label_as, read_label}
 use Rattle.label.proofs.ByteFour.{version_for_is_allowed}
 use Rattle.label.proofs.Spaces.{Padded, spaces_of_padded, read_is_padded}
-use Rattle.label.proofs.LengthField.{eight_digits_at_most}
 use Rattle.label.proofs.Reading.{twenty_bytes_are_read, read_has_20_bytes}
 
 -- two lists that agree on their first twelve bytes have the same head
@@ -54,13 +55,13 @@ take_has_the_head n s h = record { at = λ i k. get_or-take n s i 0 (omega arith
 pub record Read (s : List ℕ) (l : Label) : Type 0 where
   pub long : 20 ≤ length s
   pub good : head_good l.version (take 12 s) ≡ true
-  pub field : length_of l.version (take 8 (drop 12 s)) ≡ some (record { bytes = l.length; spaces = l.spaces })
+  pub field : length_of l.version (take 8 (drop 12 s)) ≡ Some (record { bytes = l.length; spaces = l.spaces })
   pub fields : labelled l.version (take 12 s) l.length l.spaces ≡ l
 
 length_was_read : (version : Version) (b : List ℕ) (o : Option Length) (l : Label) → with_length version b o ≡ answer l
-    → (m : Length) × (o ≡ some m) × (labelled version b m.bytes m.spaces ≡ l)
-length_was_read version b (some m) l e = (m, refl, answer_injective e)
-length_was_read version b none l e = absurd (answer_is_no_refusal (sym e))
+    → (m : Length) × (o ≡ Some m) × (labelled version b m.bytes m.spaces ≡ l)
+length_was_read version b (Some m) l e = (m, refl, answer_injective e)
+length_was_read version b None l e = absurd (answer_is_no_refusal (sym e))
 
 -- twenty bytes that were read as a label of some version: the label is of that version
 module _ (version : Version) (s : List ℕ) (l : Label) (long : 20 ≤ length s) (e : label_as version (take 20 s) ≡ answer l) where
@@ -79,7 +80,7 @@ module _ (version : Version) (s : List ℕ) (l : Label) (long : 20 ≤ length s)
           good = ap (λ (v : Version). head_good v (take 12 s)) (sym same_version) ∙ same_head_good to_head version ∙ sym (same_head_good to_s version) ∙ good;
           field =
               ap₂ length_of (sym same_version) (sym there) ∙ field
-              ∙ ap₂ (λ (n k : ℕ). some (record { bytes = n; spaces = k })) same_length same_spaces;
+              ∙ ap₂ (λ (n k : ℕ). Some (record { bytes = n; spaces = k })) same_length same_spaces;
           fields =
               ap (λ (v : Version). labelled v (take 12 s) l.length l.spaces) (sym same_version)
               ∙ same_labelled to_head version l.length l.spaces
@@ -109,6 +110,9 @@ module _ (versions : Versions) (s : List ℕ) (l : Label) (e : read_label versio
 pub only_one_is_one : (version : Version) → allows choice.One version ≡ true → version ≡ One
 only_one_is_one One e = refl
 only_one_is_one Two e = absurd (let z : ◌≡◌ {A = ℕ} 0 1 = cc e in omega arith)
+
+eight_digits_at_most : (n i : ℕ) → i ≤ 8 → n < 10 ^ i → n < 100000000
+eight_digits_at_most n i h k = omega (arith, pow-le-pow_right {n = 10} (omega arith) h)
 
 -- a field that was read has few spaces, and writes a number of eight digits at most
 few_and_short : (field : List ℕ) (m : Length) → length field ≡ 8 → Padded field m → (m.spaces ≤ 7) × (m.bytes ≤ 99999999)

@@ -3,7 +3,7 @@
 use Prim.Native.Nat.{ℕ, ◌≤◌, ◌<◌}
 use native.Mathlib.Omega.{arith}
 use mathlib.Core.Path.{◌≡◌, ◌∙◌, sym, ap}
-use mathlib.Core.Bool.{true, false}
+use mathlib.Core.Bool.{true}
 use mathlib.Core.List.{List, ◌++◌}
 use lib.ListN.{length, take, drop, length-append}
 use lib.Seq.{take-append-le}
@@ -19,9 +19,6 @@ use Rattle.label.specs.declared.Label.{Label}
 use Rattle.label.specs.Label.{label_as, label_of, with_length, read_label}
 
 module _ (version : Version) (b : List ℕ) where
-  pub bad_head : head_good version b ≡ false → label_as version b ≡ refuse 2 0
-  bad_head h = ap (λ t. need t 2 (with_length version b (length_of version (drop 12 b)))) h
-
   pub good_head : head_good version b ≡ true → label_as version b ≡ with_length version b (length_of version (drop 12 b))
   good_head h = ap (λ t. need t 2 (with_length version b (length_of version (drop 12 b)))) h
 

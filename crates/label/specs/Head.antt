@@ -1,8 +1,7 @@
 -- Bytes 0-11 of a label (document 01, the table of "The label": bytes 0-3 the agency, 4 the version, 5 the class,
 -- 6-7 `00`, 8-11 the description; document 02, item 11: "its byte 4 must agree"). Characters are ASCII: `A` is 65, `Z` 90, `0` 48.
-use Rattle.std.specs.Prelude.{ℕ, ◌+◌, Bool, ◌&&◌, ◌||◌, List, length, get_or, leb, eqb}
+use Rattle.std.specs.Prelude.{ℕ, ◌+◌, Bool, ◌&&◌, ◌||◌, List, [], ◌∷◌, length, get_or, leb, eqb}
 use Rattle.text.specs.Digits.{is_digit}
-use Rattle.label.specs.declared.Four.{Four}
 use Rattle.label.specs.declared.Version.{Version}
 use Rattle.label.specs.Version.{version_byte}
 
@@ -18,26 +17,28 @@ abbrev pub is_capital : ℕ → Bool
 is_capital b = leb 65 b && leb b 90
 
 -- four characters from place i on
-abbrev pub four_at : List ℕ → ℕ → Four
-four_at s i = record { a = get_or s i 0; b = get_or s (i + 1) 0; c = get_or s (i + 2) 0; d = get_or s (i + 3) 0 }
+abbrev pub four_at : List ℕ → ℕ → List ℕ
+four_at s i = get_or s i 0 ∷ get_or s (i + 1) 0 ∷ get_or s (i + 2) 0 ∷ get_or s (i + 3) 0 ∷ []
 
 -- the four characters are these
-abbrev pub spells : Four → ℕ → ℕ → ℕ → ℕ → Bool
-spells f a b c d = eqb f.a a && eqb f.b b && (eqb f.c c && eqb f.d d)
+abbrev pub spells : List ℕ → ℕ → ℕ → ℕ → ℕ → Bool
+spells f a b c d = eqb (get_or f 0 0) a && eqb (get_or f 1 0) b && (eqb (get_or f 2 0) c && eqb (get_or f 3 0) d)
 
 -- `NJPL` or `CCSD`
-abbrev pub is_agency : Four → Bool
+abbrev pub is_agency : List ℕ → Bool
 is_agency f = spells f 78 74 80 76 || spells f 67 67 83 68
 
+-- one of `A` to `Z`, or a digit
+abbrev pub is_code : ℕ → Bool
+is_code b = is_capital b || is_digit b
+
 -- each an upper-case letter or digit
-abbrev pub is_description : Four → Bool
-is_description f =
-    (is_capital f.a || is_digit f.a) && (is_capital f.b || is_digit f.b)
-    && ((is_capital f.c || is_digit f.c) && (is_capital f.d || is_digit f.d))
+abbrev pub is_description : List ℕ → Bool
+is_description f = is_code (get_or f 0 0) && is_code (get_or f 1 0) && (is_code (get_or f 2 0) && is_code (get_or f 3 0))
 
 -- bytes 4 to 7: the version, the class, `00`
-abbrev pub is_form : Version → Four → Bool
-is_form version f = eqb f.a (version_byte version) && is_capital f.b && (eqb f.c 48 && eqb f.d 48)
+abbrev pub is_form : Version → List ℕ → Bool
+is_form version f = eqb (get_or f 0 0) (version_byte version) && is_capital (get_or f 1 0) && (eqb (get_or f 2 0) 48 && eqb (get_or f 3 0) 48)
 
 -- bytes 0-11 are as the table says, in a label of this version
 abbrev pub head_good : Version → List ℕ → Bool

@@ -4,4 +4,3 @@ pub mod Length
 pub mod Opened
 pub mod Label
 pub mod Choice
-pub mod Private

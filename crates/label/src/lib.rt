@@ -5,14 +5,12 @@
 #![tactic(auto)]
 
 ghost use Rattle.answer.specs.Told.{told};
-ghost use Rattle.std.specs.Prelude.{◌≡◌, ◌+◌, ◌*◌, ◌≤◌, ◌<◌, ◌||◌, length as size, get_or, drop};
-ghost use Rattle.text.specs.Digits.{is_digit};
+ghost use Rattle.std.specs.Prelude.{◌≡◌, ◌+◌, ◌≤◌, ◌==◌, not, length as size, drop, position};
 ghost use Rattle.label.specs.Version.{version_byte, version_for};
-ghost use Rattle.label.specs.Head.{label_size, head_size, is_capital, is_agency, is_form, is_description, head_good, is_head, four_at};
+ghost use Rattle.label.specs.Head.{head_size, is_code, is_agency, is_form, is_description, head_good, is_head, four_at};
 ghost use Rattle.label.specs.Length.{field_size, spaces_in, number_in, after, binary, length_of};
 ghost use Rattle.label.specs.Opened.{is_opened};
 ghost use Rattle.label.specs.Label.{labelled, label_as, read_label};
-ghost use Rattle.label.specs.Private.{OneNumber, field_read};
 
 use answer::{Refusal, Refused};
 
@@ -25,79 +23,53 @@ pub const HEAD: usize = 12;
 const FIELD: usize = 8;
 
 // The versions of the label: its length is in digits, or a binary number.
-#[derive(Clone, Copy)]
+#[derive(Clone, Copy, Debug, PartialEq, Eq)]
 pub enum Version {
     One,
     Two,
 }
 
 // Which versions a call allows.
-#[derive(Clone, Copy)]
+#[derive(Clone, Copy, Debug, PartialEq, Eq)]
 pub enum Versions {
     One,
     OneAndTwo,
 }
 
-// Four characters of a label: an agency or a description.
-#[derive(Clone, Copy)]
-pub struct Four {
-    pub a: u8,
-    pub b: u8,
-    pub c: u8,
-    pub d: u8,
-}
-
 // What a label says. `length` is the number of bytes after the label: its value. `spaces` is how many
 // spaces stand before the length's digits, 0 to 7; in version 2 there are none. (In this order no
 // field crosses a word's end. With the length last, the compiler sends it through memory once more.)
-#[derive(Clone, Copy)]
+#[derive(Clone, Copy, Debug, PartialEq, Eq)]
 pub struct Label {
-    pub agency: Four,
-    pub description: Four,
+    pub agency: [u8; 4],
+    pub description: [u8; 4],
     pub length: usize,
     pub version: Version,
     pub class: u8,
     pub spaces: u8,
 }
 
-// A version 1 length field that was read: the length, and the spaces before its digits. `Bad` where it
-// is not spaces and then digits, one at least.
+// What a length field says: how many bytes stand after the label, and how many spaces stand before
+// the field's digits, none where it has no digits.
 #[derive(Clone, Copy)]
-enum Field {
-    Is(usize, u8),
-    Bad,
+struct Length {
+    bytes: usize,
+    spaces: u8,
 }
 
-// Whether a value of this class is itself divided into labelled objects.
+// Whether a value of this class is itself divided into labelled objects. (By `|`: of `matches!` the
+// compiler makes a jump, which took 2.9 ns more a label where classes are mixed.)
 pub fn is_opened(class: u8) -> bool
     ensures { result ≡ is_opened class }
 {
-    (class == 70) | (class == 85) | (class == 90)
+    (class == b'F') | (class == b'U') | (class == b'Z')
 }
 
 // An upper-case letter or a digit.
 fn is_code(b: u8) -> bool
-    ensures { result ≡ is_capital b || is_digit b }
+    ensures { result ≡ is_code b }
 {
-    ((65 <= b) & (b <= 90)) | ((48 <= b) & (b <= 57))
-}
-
-// Four characters as one number, the first lowest.
-fn number_of(f: Four) -> usize
-    ensures { OneNumber f result }
-{
-    let high = usize::from(f.d) * 256 + usize::from(f.c);
-    let low = usize::from(f.b) * 256 + usize::from(f.a);
-    high * 65536 + low
-}
-
-// `NJPL` or `CCSD`, whose characters, the last first, are these two numbers' bytes: four are compared
-// at once.
-fn is_agency(f: Four) -> bool
-    ensures { result ≡ is_agency f }
-{
-    let n = number_of(f);
-    (n == 0x4C504A4E) | (n == 0x44534343)
+    b.is_ascii_uppercase() | b.is_ascii_digit()
 }
 
 // Byte 4 of a label of this version.
@@ -105,190 +77,181 @@ fn version_byte(version: Version) -> u8
     ensures { result ≡ version_byte version }
 {
     match version {
-        Version::One => 49,
-        Version::Two => 50,
+        Version::One => b'1',
+        Version::Two => b'2',
     }
 }
 
-fn is_form(version: Version, f: Four) -> bool
+fn is_form(version: Version, f: [u8; 4]) -> bool
     ensures { result ≡ is_form version f }
 {
-    let byte = version_byte(version);
-    (f.a == byte) & ((65 <= f.b) & (f.b <= 90)) & ((f.c == 48) & (f.d == 48))
+    (f[0] == version_byte(version)) & f[1].is_ascii_uppercase() & ((f[2] == b'0') & (f[3] == b'0'))
 }
 
-fn is_description(f: Four) -> bool
+fn is_description(f: [u8; 4]) -> bool
     ensures { result ≡ is_description f }
 {
-    is_code(f.a) & is_code(f.b) & (is_code(f.c) & is_code(f.d))
+    is_code(f[0]) & is_code(f[1]) & (is_code(f[2]) & is_code(f[3]))
 }
 
 // Four characters of `s` from place `i` on.
-fn four_at(s: &[u8], i: usize) -> Four
+fn four_at(s: &[u8], i: usize) -> [u8; 4]
     requires { i + 4 ≤ size s.now }
     ensures { result ≡ four_at s.now i }
 {
-    Four {
-        a: s[i],
-        b: s[i + 1],
-        c: s[i + 2],
-        d: s[i + 3],
-    }
+    [s[i], s[i + 1], s[i + 2], s[i + 3]]
+}
+
+// Whether bytes 0-3 are `NJPL` or `CCSD`. (Each as one number: of `==` on arrays the compiler makes a
+// test for each byte, which took 1.5 ns more a label.)
+fn has_agency(s: &[u8]) -> bool
+    requires { head_size ≤ size s.now }
+    ensures { result ≡ is_agency (four_at s.now 0) }
+{
+    let n = u32::from_le_bytes(four_at(s, 0));
+    (n == u32::from_le_bytes(*b"NJPL")) | (n == u32::from_le_bytes(*b"CCSD"))
 }
 
 // Whether bytes 0-11 are those of a label of this version.
 fn head_is_good(version: Version, s: &[u8]) -> bool
-    requires { 12 ≤ size s.now }
+    requires { head_size ≤ size s.now }
     ensures { result ≡ head_good version s.now }
 {
-    is_agency(four_at(s, 0)) & (is_form(version, four_at(s, 4)) & is_description(four_at(s, 8)))
+    has_agency(s) & (is_form(version, four_at(s, 4)) & is_description(four_at(s, 8)))
 }
 
 // Whether these are bytes 0-11 of a label of this version, all twelve of them and no more.
 pub fn is_head(version: Version, head: &[u8]) -> bool
     ensures { result ≡ is_head version head.now }
 {
-    if head.len() != HEAD {
-        return false;
-    }
-    head_is_good(version, head)
+    head.len() == HEAD && head_is_good(version, head)
 }
 
-// How many spaces stand at the front of the length field of a label's twenty bytes.
-fn spaces_in(b: &[u8]) -> usize
-    requires { size b.now ≡ label_size }
-    ensures { (result ≡ spaces_in (drop head_size b.now)) × (result ≤ field_size) }
+// The place of the first byte that is no space.
+fn first_other(field: &[u8]) -> Option<usize>
+    ensures { result ≡ position (λ b. not (b == 32)) field.now }
 {
-    let mut spaces: usize = 0;
-    while spaces < FIELD {
-        if b[HEAD + spaces] != 32 {
-            return spaces;
+    field.iter().position(|b| *b != b' ')
+}
+
+// How many spaces stand at the front of a length field.
+#[tactic(auto, using(crate::proofs::Spaces::spaces_at_most))]
+fn spaces_in(field: &[u8]) -> usize
+    ensures value { result ≡ spaces_in field.now }
+    ensures within { result ≤ size field.now }
+{
+    first_other(field).unwrap_or(field.len())
+}
+
+// The number that one or more digits write, eight at most. (A digit is widened before 48 is taken from
+// it: by `digit - b'0'` a label of eight digits took 1.1 ns more.)
+fn number_in(digits: &[u8]) -> Option<usize>
+    requires { size digits.now ≤ field_size }
+    ensures { result ≡ number_in digits.now }
+{
+    if digits.is_empty() {
+        return None;
+    }
+    let mut n = 0;
+    for digit in digits {
+        if !digit.is_ascii_digit() {
+            return None;
         }
-        spaces += 1;
+        n = n * 10 + (usize::from(*digit) - 48);
     }
-    spaces
+    Some(n)
 }
 
-// The length field of a label's twenty bytes where so many spaces are passed: what stands behind them
-// is digits, one at least.
-fn digits_after(b: &[u8], spaces: usize) -> Field
-    requires b_value { size b.now ≡ label_size }
-    requires spaces_le_field_size { spaces ≤ field_size }
-    ensures { field_read result ≡ after spaces (number_in (drop (head_size + spaces) b.now)) }
+// What a length field says where so many spaces are passed: digits stand behind them.
+fn digits_after(field: &[u8; FIELD], spaces: usize) -> Option<Length>
+    requires { spaces ≤ field_size }
+    ensures { result ≡ after spaces (number_in (drop spaces field.now)) }
 {
-    if spaces == FIELD {
-        return Field::Bad;
-    }
-    let mut n: usize = 0;
-    let mut i = spaces;
-    while i < FIELD {
-        let digit = usize::from(b[HEAD + i]);
-        if digit < 48 {
-            return Field::Bad;
-        }
-        if 57 < digit {
-            return Field::Bad;
-        }
-        n = n * 10 + (digit - 48);
-        i += 1;
-    }
-    Field::Is(n, spaces as u8)
+    let bytes = number_in(&field[spaces..])?;
+    Some(Length {
+        bytes,
+        spaces: spaces as u8,
+    })
 }
 
-// The length field of a version 1 label's twenty bytes. Eight digits are read at once, and spaces
-// looked for only where that fails, so that a field without spaces costs nothing more.
-fn digits_field(b: &[u8]) -> Field
-    requires { size b.now ≡ label_size }
-    ensures { field_read result ≡ length_of Version.One (drop head_size b.now) }
+// What the length field of a version 1 label says. Eight digits are read at once, and spaces looked for
+// only where that fails, so that a field without spaces costs nothing more.
+fn digits_field(field: &[u8; FIELD]) -> Option<Length>
+    ensures { result ≡ length_of Version.One field.now }
 {
-    match digits_after(b, 0) {
-        Field::Is(n, spaces) => Field::Is(n, spaces),
-        Field::Bad => digits_after(b, spaces_in(b)),
-    }
+    digits_after(field, 0).or_else(|| digits_after(field, spaces_in(field)))
 }
 
-// The binary number in two bytes of `b` from place `i` on, most significant first.
-fn pair_at(b: &[u8], i: usize) -> usize
-    requires { i + 2 ≤ size b.now }
-    ensures { (result ≡ get_or b.now i 0 * 256 + get_or b.now (i + 1) 0) × (result < 65536) }
+// The binary number in the length field of a version 2 label, most significant byte first.
+fn binary_field(field: &[u8; FIELD]) -> usize
+    ensures { result ≡ binary 0 field.now }
 {
-    usize::from(b[i]) * 256 + usize::from(b[i + 1])
+    usize::from_be_bytes(*field)
 }
 
-// The binary number in the length field of a label's twenty bytes, most significant byte first. By
-// pairs of bytes the compiler knows it for one load.
-fn binary_field(b: &[u8]) -> usize
-    requires { size b.now ≡ label_size }
-    ensures { result ≡ binary 0 (drop head_size b.now) }
+// The length field of a label's twenty bytes.
+fn field_of(b: &[u8; LABEL]) -> &[u8; FIELD]
+    ensures { result.now ≡ drop head_size b.now }
 {
-    let first = pair_at(b, 12) * 65536 + pair_at(b, 14);
-    let last = pair_at(b, 16) * 65536 + pair_at(b, 18);
-    first * 4294967296 + last
+    b.last_chunk().unwrap()
 }
 
 // The label of this version with bytes 0-11 as in `b`, this length and so many spaces.
-fn label_with(version: Version, b: &[u8], length: usize, spaces: u8) -> Label
-    requires { 12 ≤ size b.now }
+fn label_with(version: Version, b: &[u8; LABEL], length: usize, spaces: u8) -> Label
     ensures { result ≡ labelled version b.now «length» spaces }
 {
     Label {
         agency: four_at(b, 0),
-        version: version,
+        version,
         class: b[5],
         description: four_at(b, 8),
-        length: length,
-        spaces: spaces,
+        length,
+        spaces,
     }
 }
 
-// The version 1 label that twenty bytes are.
-fn digits_label(b: &[u8]) -> Result<Label, Refused>
-    requires { size b.now ≡ label_size }
+// The version 1 label that twenty bytes are. (By one function for both versions, told the version, a
+// version 1 label took 19.5 ns in place of 16.3, and 17.2 where each is a call of its own.)
+#[tactic(auto, using(crate::proofs::Reading::good_head))]
+fn digits_label(b: &[u8; LABEL]) -> Result<Label, Refused>
     ensures { told result ≡ label_as Version.One b.now }
 {
     if !head_is_good(Version::One, b) {
         return Err(Refused(Refusal::BadLabel, 0));
     }
-    match digits_field(b) {
-        Field::Is(n, spaces) => Ok(label_with(Version::One, b, n, spaces)),
-        Field::Bad => Err(Refused(Refusal::BadLength, 0)),
-    }
+    let length = digits_field(field_of(b)).ok_or(Refused(Refusal::BadLength, 0))?;
+    Ok(label_with(Version::One, b, length.bytes, length.spaces))
 }
 
 // The version 2 label that twenty bytes are.
-fn binary_label(b: &[u8]) -> Result<Label, Refused>
-    requires { size b.now ≡ label_size }
+fn binary_label(b: &[u8; LABEL]) -> Result<Label, Refused>
     ensures { told result ≡ label_as Version.Two b.now }
 {
     if !head_is_good(Version::Two, b) {
         return Err(Refused(Refusal::BadLabel, 0));
     }
-    let n = binary_field(b);
-    Ok(label_with(Version::Two, b, n, 0))
+    let length = binary_field(field_of(b));
+    Ok(label_with(Version::Two, b, length, 0))
 }
 
 // The version as which a label with this byte 4 is read: 2 where it says so and is allowed.
 fn version_for(versions: Versions, byte: u8) -> Version
     ensures { result ≡ version_for versions byte }
 {
-    if byte != 50 {
-        return Version::One;
-    }
     match versions {
-        Versions::One => Version::One,
-        Versions::OneAndTwo => Version::Two,
+        Versions::OneAndTwo if byte == b'2' => Version::Two,
+        _ => Version::One,
     }
 }
 
 // The label at the front of `s`: 1, 2, 3 in that order, at place 0.
+#[tactic(auto, unfolding(crate::specs::Label::read_label))]
 pub fn read_label(versions: Versions, s: &[u8]) -> Result<Label, Refused>
     ensures { told result ≡ read_label versions s.now }
 {
-    if s.len() < LABEL {
-        return Err(Refused(Refusal::Short, 0));
-    }
-    match version_for(versions, s[4]) {
-        Version::One => digits_label(&s[..LABEL]),
-        Version::Two => binary_label(&s[..LABEL]),
+    let b = s.first_chunk::<LABEL>().ok_or(Refused(Refusal::Short, 0))?;
+    match version_for(versions, b[4]) {
+        Version::One => digits_label(b),
+        Version::Two => binary_label(b),
     }
 }

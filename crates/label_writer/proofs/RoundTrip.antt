@@ -8,7 +8,7 @@ use native.Mathlib.Omega.{arith}
 use mathlib.Core.Path.{◌≡◌, refl, ◌∙◌, sym, ap}
 use mathlib.Core.Bool.{true}
 use mathlib.Core.List.{List, [], ◌∷◌, ◌++◌}
-use mathlib.Core.Option.{some}
+use Rattle.std.specs.Prelude.{Some}
 use lib.ListN.{length, take, length-append}
 use lib.Dec.{leb, eqb}
 use lib.Seq.{take_at, drop_at, length-take-le}
@@ -47,10 +47,10 @@ bytes_read_back (suc w) n h =
     ∙ ap (λ (k : ℕ). k * 256 + (0 + n % 256)) (bytes_read_back w (n / 256) q) ∙ omega arith
 
 field_reads_back : (version : Version) (n : ℕ) → holds version n ≡ true → n < 2 ^ 64
-    → length_of version (field_of version n) ≡ some (record { bytes = n; spaces = 0 })
+    → length_of version (field_of version n) ≡ Some (record { bytes = n; spaces = 0 })
 field_reads_back One n held h =
     padded_is_read 0 (field_of One n) n (omega (arith, length_digits 10 48 8 n)) (digits_read_back 8 n (omega (arith, leb-true n longest held)))
-field_reads_back Two n held h = ap (λ (k : ℕ). some (record { bytes = k; spaces = 0 })) (bytes_read_back 8 n h)
+field_reads_back Two n held h = ap (λ (k : ℕ). Some (record { bytes = k; spaces = 0 })) (bytes_read_back 8 n h)
 
 -- ---- what was written reads back
 

@@ -6,10 +6,10 @@
 #![tactic(auto)]
 
 ghost use Rattle.answer.specs.Told.{told};
-ghost use Rattle.std.specs.Prelude.{◌≡◌, ◌%◌, length as size};
+ghost use Rattle.std.specs.Prelude.{◌≡◌, length as size};
 ghost use Rattle.answer.specs.Filled.{Writes};
 ghost use Rattle.text.specs.Digits.{digits_of};
-ghost use Rattle.label_writer.specs.Write.{holds, bytes_of, field_of, write_label};
+ghost use Rattle.label_writer.specs.Write.{holds, field_of, write_label};
 
 use answer::{Refusal, Refused};
 use label::Version;
@@ -17,57 +17,18 @@ use label::Version;
 // The largest length that eight digits write.
 const LONGEST: usize = 99999999;
 
-// The last eight decimal digits of a number, as characters.
+// The last eight decimal digits of a number, as characters, the last first. (By `iter_mut().rev()` in
+// place of `7 - i`: tried, and the proof didn't close.)
 fn eight_digits(n: usize) -> [u8; 8]
     ensures { result ≡ digits_of 8 n }
 {
-    let n1 = n / 10;
-    let n2 = n1 / 10;
-    let n3 = n2 / 10;
-    let n4 = n3 / 10;
-    let n5 = n4 / 10;
-    let n6 = n5 / 10;
-    let n7 = n6 / 10;
-    [
-        text::last_digit(n7),
-        text::last_digit(n6),
-        text::last_digit(n5),
-        text::last_digit(n4),
-        text::last_digit(n3),
-        text::last_digit(n2),
-        text::last_digit(n1),
-        text::last_digit(n),
-    ]
-}
-
-// The lowest byte of a number.
-fn last_byte(n: usize) -> u8
-    ensures { result ≡ n % 256 }
-{
-    (n % 256) as u8
-}
-
-// The eight bytes of a number, most significant first.
-fn eight_bytes(n: usize) -> [u8; 8]
-    ensures { result ≡ bytes_of 8 n }
-{
-    let n1 = n / 256;
-    let n2 = n1 / 256;
-    let n3 = n2 / 256;
-    let n4 = n3 / 256;
-    let n5 = n4 / 256;
-    let n6 = n5 / 256;
-    let n7 = n6 / 256;
-    [
-        last_byte(n7),
-        last_byte(n6),
-        last_byte(n5),
-        last_byte(n4),
-        last_byte(n3),
-        last_byte(n2),
-        last_byte(n1),
-        last_byte(n),
-    ]
+    let mut digits = [b'0'; 8];
+    let mut rest = n;
+    for i in 0..8 {
+        digits[7 - i] = text::last_digit(rest);
+        rest /= 10;
+    }
+    digits
 }
 
 // Whether a label of this version can hold this length.
@@ -80,19 +41,25 @@ fn can_hold(version: Version, n: usize) -> bool
     }
 }
 
-// The length field of a label of this version.
+// The length field of a label of this version: eight digits, or eight bytes, most significant first.
 fn field_of(version: Version, n: usize) -> [u8; 8]
     ensures { result ≡ field_of version n }
 {
     match version {
         Version::One => eight_digits(n),
-        Version::Two => eight_bytes(n),
+        Version::Two => n.to_be_bytes(),
     }
 }
 
 // Writes the label of this version with bytes 0-11 as lent and this length to the first 20 bytes of
 // `out`: 2, in version 1 15, then 8.
-pub fn write_label(version: Version, head: &[u8], length: usize, out: &mut [u8]) -> Result<usize, Refused>
+#[tactic(auto, unfolding(crate::specs::Write::write_label))]
+pub fn write_label(
+    version: Version,
+    head: &[u8],
+    length: usize,
+    out: &mut [u8],
+) -> Result<usize, Refused>
     ensures { Writes (write_label version head.now «length» (size out.old))
         out.old (told result) out.new }
 {

@@ -6,7 +6,7 @@ use Rattle.limits.specs.declared.Limit.{Limit}
 
 -- a line: the n of 4.4.n, its minimum and its maximum
 abbrev pub element : ℕ → ℤ → ℤ → Limit
-element n lo hi = record { 0 = n; 1 = lo; 2 = hi }
+element n lo hi = record { number = n; minimum = lo; maximum = hi }
 
 -- the number −n
 abbrev pub minus : ℕ → ℤ

@@ -8,7 +8,7 @@ use Rattle.limits.specs.declared.Limit.{Limit}
 
 -- a line: the field's position, its minimum and its maximum
 abbrev pub field : ℕ → ℕ → ℕ → Limit
-field n lo hi = record { 0 = n; 1 = pos lo; 2 = pos hi }
+field n lo hi = record { number = n; minimum = pos lo; maximum = pos hi }
 
 unfoldable pub burst_table : List Limit
 burst_table =

@@ -1,8 +1,6 @@
 -- The lines of the two tables, and what an answer about one stands for.
-use Rattle.std.specs.Prelude.{List, [], ◌∷◌}
+use Rattle.std.specs.Prelude.{List, [], ◌∷◌, Option, Some, None}
 use Rattle.limits.specs.declared.Limit.{Limit}
-use Rattle.limits.specs.declared.Line.{Line}
-use Rattle.limits.specs.declared.Line.TheVariants.{Is, End}
 use Rattle.limits.specs.declared.Table.{Table}
 use Rattle.limits.specs.declared.Table.TheVariants.{Altimeter, Bursts}
 use Rattle.limits.specs.AltimeterLimits.{altimeter_table}
@@ -12,7 +10,7 @@ abbrev pub table_of : Table → List Limit
 table_of Altimeter = altimeter_table
 table_of Bursts = burst_table
 
--- what the answer enum `Line` stands for: the line that was read, or that the table has none there
-abbrev pub line_of : Line → List Limit
-line_of (Is l) = l ∷ []
-line_of End = []
+-- the line that was read, or none past the last
+abbrev pub line_of : Option Limit → List Limit
+line_of (Some l) = l ∷ []
+line_of None = []

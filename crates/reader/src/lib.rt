@@ -4,7 +4,7 @@
 // caller names the kind and vouches for it; the labelled kind says which versions of the label are
 // allowed, that of bursts where the first record begins. A caller that knows the kind when it is
 // written jumps by the kind's own function, which costs less.
-#![tactic(auto)]
+#![tactic(auto, using(crate::proofs::Found::row_inside, crate::proofs::Found::jumped_inside, fixed_rows::proofs::JumpIsRead::jump_is_read), unfolding(crate::specs::Rows::check_file, crate::specs::Read::find_row, crate::specs::Read::jump_to, crate::specs::Read::read_row, crate::specs::Read::jump_row, crate::specs::Read::row_from))]
 
 ghost use Rattle.answer.specs.Told.{told};
 ghost use Rattle.std.specs.Prelude.{◌≡◌, [], ◌+◌, ◌≤◌};
@@ -13,7 +13,7 @@ ghost use Rattle.answer.specs.Window.{window_in};
 ghost use Rattle.reader.specs.Rows.{check_file};
 ghost use Rattle.reader.specs.Read.{find_row, read_row, jump_row, row_from, beginning as beginning_of};
 
-use answer::{Address, Part, Refusal, Refused, Shown};
+use answer::{Part, Refusal, Refused, Shown, Window};
 use label::Versions;
 
 // The kinds of file.
@@ -49,34 +49,29 @@ fn find_row(kind: Kind, file: &[u8], k: usize) -> Result<Shown, Refused>
     }
 }
 
-// The window of `c` bytes from byte `a` on of a row that was found, or 7. The row's address stays.
-fn window_in(row: Result<Shown, Refused>, a: usize, c: usize) -> Result<Shown, Refused>
-    requires { (s : Shown) → told row ≡ answer s → s.part.place + s.part.count ≤ 9223372036854775807 }
-    ensures { told result ≡ and_then (told row) (window_in a c) }
+// The window of a row that was found, or 7. The row's address stays.
+fn window_in(row: Shown, window: Window) -> Result<Shown, Refused>
+    requires { row.part.place + row.part.count ≤ 9223372036854775807 }
+    ensures { told result ≡ window_in window.first window.count row }
 {
-    match row {
-        Ok(found) => {
-            if answer::window_fits(found.part.count, a, c) {
-                let place = found.part.place + a;
-                let address = found.address;
-                let label = address.label;
-                let nesting = address.nesting;
-                return Ok(Shown {
-                    part: Part { place, count: c },
-                    address: Address { label, nesting },
-                });
-            }
-            Err(Refused(Refusal::NoPart, 0))
-        }
-        Err(Refused(why, place)) => Err(Refused(why, place)),
+    if !window.fits(row.part.count) {
+        return Err(Refused(Refusal::NoPart, 0));
     }
+    Ok(Shown {
+        part: Part {
+            place: row.part.place + window.first,
+            count: window.count,
+        },
+        address: row.address,
+    })
 }
 
 // The window of row `k`, read from the first byte.
-pub fn read_row(kind: Kind, file: &[u8], k: usize, a: usize, c: usize) -> Result<Shown, Refused>
-    ensures { told result ≡ read_row kind file.now k a c }
+pub fn read_row(kind: Kind, file: &[u8], k: usize, window: Window) -> Result<Shown, Refused>
+    ensures { told result ≡ read_row kind file.now k window.first window.count }
 {
-    window_in(find_row(kind, file, k), a, c)
+    let row = find_row(kind, file, k)?;
+    window_in(row, window)
 }
 
 // Row `k` of a labelled file, whole, found from the first byte.
@@ -104,36 +99,44 @@ pub fn jump_labelled(
     file: &[u8],
     list: &[u32],
     k: usize,
-    a: usize,
-    c: usize,
+    window: Window,
 ) -> Result<Shown, Refused>
-    ensures { told result ≡ jump_row (Kind.Labelled versions) file.now list.now k a c }
+    ensures { told result ≡ jump_row (Kind.Labelled versions) file.now list.now k window.first window.count }
 {
-    window_in(row_index::jump_to(versions, file, list, k), a, c)
+    let row = row_index::jump_to(versions, file, list, k)?;
+    window_in(row, window)
 }
 
 // The window of row `k` of a waveform file, jumped to with no list.
-pub fn jump_waveform(file: &[u8], k: usize, a: usize, c: usize) -> Result<Shown, Refused>
-    ensures { told result ≡ jump_row Kind.Waveform file.now [] k a c }
+pub fn jump_waveform(file: &[u8], k: usize, window: Window) -> Result<Shown, Refused>
+    ensures { told result ≡ jump_row Kind.Waveform file.now [] k window.first window.count }
 {
-    window_in(waveform::jump_to(file, k), a, c)
+    let row = waveform::jump_to(file, k)?;
+    window_in(row, window)
 }
 
 // The window of record `k` of bursts that begin at `first`, jumped to with no list.
-pub fn jump_bursts(file: &[u8], first: usize, k: usize, a: usize, c: usize) -> Result<Shown, Refused>
-    ensures { told result ≡ jump_row (Kind.Bursts first) file.now [] k a c }
+pub fn jump_bursts(file: &[u8], first: usize, k: usize, window: Window) -> Result<Shown, Refused>
+    ensures { told result ≡ jump_row (Kind.Bursts first) file.now [] k window.first window.count }
 {
-    window_in(bursts::jump_to(file, first, k), a, c)
+    let row = bursts::jump_to(file, first, k)?;
+    window_in(row, window)
 }
 
 // The window of row `k`, jumped to by the list. Only a labelled file needs one.
-pub fn jump_row(kind: Kind, file: &[u8], list: &[u32], k: usize, a: usize, c: usize) -> Result<Shown, Refused>
-    ensures { told result ≡ jump_row kind file.now list.now k a c }
+pub fn jump_row(
+    kind: Kind,
+    file: &[u8],
+    list: &[u32],
+    k: usize,
+    window: Window,
+) -> Result<Shown, Refused>
+    ensures { told result ≡ jump_row kind file.now list.now k window.first window.count }
 {
     match kind {
-        Kind::Labelled(versions) => jump_labelled(versions, file, list, k, a, c),
-        Kind::Waveform => jump_waveform(file, k, a, c),
-        Kind::Bursts(first) => jump_bursts(file, first, k, a, c),
+        Kind::Labelled(versions) => jump_labelled(versions, file, list, k, window),
+        Kind::Waveform => jump_waveform(file, k, window),
+        Kind::Bursts(first) => jump_bursts(file, first, k, window),
     }
 }
 

@@ -4,7 +4,7 @@ use native.Mathlib.Omega.{arith}
 use mathlib.Core.Path.{◌≡◌, refl, ◌∙◌}
 use mathlib.Core.Bool.{Bool, true, false}
 use mathlib.Core.List.{List, [], ◌∷◌, ◌++◌}
-use mathlib.Core.Option.{some}
+use Rattle.std.specs.Prelude.{Some}
 use lib.Dec.{eqb}
 use borrow.Author.Tests.{eqb-true}
 use Rattle.text.specs.Digits.{decimal, digits_of}
@@ -21,7 +21,7 @@ zeros_read_as_nothing (b ∷ bs) ys = step (eqb b 48) refl (zeros_read_as_nothin
     step true e h = rw (eqb-true b 48 e) h
     step false e h = refl
 
-pub decimal_reads_back : (n : ℕ) → n < 2 ^ 64 → decimal 0 (decimal_text n) ≡ some n
+pub decimal_reads_back : (n : ℕ) → n < 2 ^ 64 → decimal 0 (decimal_text n) ≡ Some n
 unfolding decimal_text
 decimal_reads_back n h =
     zeros_read_as_nothing (digits_of 19 (n / 10)) ((48 + n % 10) ∷ []) ∙ digits_read_back 20 n (omega arith)

@@ -3,38 +3,56 @@
 // zeros. What stands around a number is left to the crates above.
 #![tactic(auto)]
 
-ghost use Rattle.std.specs.Prelude.{◌≡◌, ◌+◌, ◌%◌};
-ghost use Rattle.text.specs.Decimal.{Spells, decimal_text};
+ghost use Rattle.std.specs.Prelude.{ℕ, ◌≡◌, ◌+◌, ◌%◌, ◌<◌, ◌≤◌, List, length, drop};
+ghost use Rattle.text.specs.Decimal.{decimal_text};
 
-// A number's text: the bytes of `digits` from `first` on. What stands before them is left free.
-#[derive(Clone, Copy)]
+use std::marker::Model;
+
+// A number's text, which contracts see as the list of its bytes. Of the memory that it stands in, what
+// stands before `first` is left free.
+#[derive(Drop)]
 pub struct Numeral {
-    pub digits: [u8; 20],
-    pub first: usize,
+    digits: [u8; 20],
+    first: usize,
+}
+
+impl Model for Numeral {
+    ghost Value = { List ℕ };
+
+    ghost view = { λ numeral. drop numeral.first numeral.digits };
+
+    ghost invariant = { λ numeral. numeral.first < 20 };
+}
+
+impl Numeral {
+    pub fn digits(&self) -> &[u8]
+        ensures text { result.now ≡ self.now }
+        ensures short { length result.now ≤ 20 }
+    {
+        &self.digits[self.first..]
+    }
 }
 
 // The character of a number's last decimal digit.
 pub fn last_digit(n: usize) -> u8
     ensures { result ≡ 48 + n % 10 }
 {
-    48 + (n % 10) as u8
+    b'0' + (n % 10) as u8
 }
 
-// The decimal text of a number: the last digit, then before it a digit for each ten that is left.
+// The decimal text of a number: the last digit, then before it a digit for each ten that is left. How
+// many turns that takes is not known before: a `for` is no plainer.
 pub fn decimal(n: usize) -> Numeral
-    ensures { Spells result (decimal_text n) }
+    ensures { result ≡ decimal_text n }
 {
-    let mut digits = [48u8; 20];
-    let mut first: usize = 19;
-    digits[19] = last_digit(n);
+    let mut digits = [b'0'; 20];
+    let mut first = 19;
+    digits[first] = last_digit(n);
     let mut rest = n / 10;
-    while 0 < rest {
-        first = first - 1;
+    while rest > 0 {
+        first -= 1;
         digits[first] = last_digit(rest);
-        rest = rest / 10;
+        rest /= 10;
     }
-    Numeral {
-        digits: digits,
-        first: first,
-    }
+    Numeral { digits, first }
 }

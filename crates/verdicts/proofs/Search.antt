@@ -1,61 +1,75 @@
--- The search for a number: what the number at a place says of the search from there on, and that the line that stands where a
--- table's numbers have a number is the line that the table has for it.
-use Prim.Native.Nat.{ℕ, suc, ◌+◌, ◌≤◌, ◌<◌}
-use native.Mathlib.Omega.{arith}
-use mathlib.Core.Path.{◌≡◌, refl, ap, ◌∙◌}
-use mathlib.Core.Bool.{Bool, true, false}
-use mathlib.Core.List.{List, [], ◌∷◌}
-use lib.Dec.{eqb}
-use lib.ListN.{length, get_or, take, drop, drop_of_length-le}
-use lib.Seq.{drop-cons}
-use borrow.Author.Tests.{eq-eqb, ne_eqb}
-use Rattle.answer.specs.Outcome.{Outcome, answer, refuse}
-use Rattle.verdicts.specs.Private.{numbers_of, pick_index, index_in, found}
-use Rattle.verdicts.specs.Verdict.{pick_line, limits_of}
-use Rattle.limits.specs.Limits.{line_of}
+-- The search by halves: a line at which it ends is the one that the table has for the number, and where it ends between two lines
+-- the table has none for it. It rests on one test computed over each table: that its numbers rise.
+use Rattle.std.proofs.Common.{◌≡◌, ℕ, zero, suc, ◌<◌, ◌≤◌, Bool, true, ◌&&◌, leb, List, [], ◌∷◌, length, get_or, Result, Ok, Err, IfOk, IfErr, refl, sym, ap, ◌∙◌, arith}
+use Rattle.std.specs.List.Sorted.{IsSearchInRange, IsBinarySearchResult, IsNonDecreasingBy}
+use Rattle.std.specs.Ordering.{nat_cmp, ordering_index}
+use Rattle.std.proofs.lemmas.Cmp.{ranked}
+use Rattle.std.proofs.lemmas.List.{get_or-map}
+use Rattle.std.proofs.lemmas.Bool.Decides.{nat_tests}
+use native.Mathlib.Decide.{dec_le}
+use native.Mathlib.Nat.{lt_of_not-le}
+use borrow.Author.Tests.{leb-true}
+use Rattle.answer.specs.Outcome.{answer, refuse}
+use Rattle.answer.proofs.Tests.{both_hold}
+use Rattle.limits.specs.AltimeterLimits.{altimeter_table}
+use Rattle.limits.specs.BurstLimits.{burst_table}
+use Rattle.limits.specs.Limits.{table_of}
 use Rattle.limits.specs.declared.Limit.{Limit}
-use Rattle.limits.specs.declared.Line.{Line}
-use Rattle.limits.specs.declared.Line.TheVariants.{Is, End}
+use Rattle.limits.specs.declared.Table.{Table}
+use Rattle.limits.specs.declared.Table.TheVariants.{Altimeter, Bursts}
+use Rattle.verdicts.specs.Verdict.{limits_of}
+use Rattle.verdicts.proofs.Tables.{each_is_found_by_its_number}
 
--- no number is left
-pub is_none : (xs : List ℕ) (i n : ℕ) → length xs ≤ i → index_in (drop i xs) n ≡ 0
-is_none xs i n h = rw (drop_of_length-le xs {i = i} h)
+-- the test: each number is at least m and that of the line before it
+abbrev rise : ℕ → List Limit → Bool
+rise m [] = true
+rise m (l ∷ ls) = leb m l.number && rise l.number ls
 
-module _ (xs : List ℕ) (i n : ℕ) (h : i < length xs) where
-  from_here : drop i xs ≡ get_or xs i 0 ∷ drop (i + 1) xs
-  from_here =
-      let next : suc i ≡ i + 1 = omega arith in
-      drop-cons xs i 0 h ∙ ap (λ k. get_or xs i 0 ∷ drop k xs) next
+numbers_rise : (t : Table) → rise 0 (table_of t) ≡ true
+unfolding altimeter_table burst_table
+numbers_rise Altimeter = refl
+numbers_rise Bursts = refl
 
-  -- the number at i is the wanted one
-  pub is_here : get_or xs i 0 ≡ n → index_in (drop i xs) n ≡ 0
-  is_here q = rw from_here (simp (eq-eqb (get_or xs i 0) n q))
+at_least : (m : ℕ) (ls : List Limit) → rise m ls ≡ true → (j : ℕ) (d : Limit) → j < length ls → m ≤ (get_or ls j d).number
+at_least m [] e j d h = absurd (omega arith)
+at_least m (l ∷ ls) e zero d h = leb-true m l.number (both_hold (leb m l.number) (rise l.number ls) e).0
+at_least m (l ∷ ls) e (suc j) d h =
+    let t = both_hold (leb m l.number) (rise l.number ls) e in
+    omega (arith, leb-true m l.number t.0, at_least l.number ls t.1 j d (omega arith))
 
-  -- it is another: the search goes on behind it
-  pub is_later : (get_or xs i 0 ≡ n → ⊥) → index_in (drop i xs) n ≡ 1 + index_in (drop (i + 1) xs) n
-  is_later q = rw from_here (simp (ne_eqb (get_or xs i 0) n q) (omega arith))
+in_order : (m : ℕ) (ls : List Limit) → rise m ls ≡ true → (i j : ℕ) (d : Limit) → i ≤ j → j < length ls → (get_or ls i d).number ≤ (get_or ls j d).number
+in_order m [] e i j d le h = absurd (omega arith)
+in_order m (l ∷ ls) e zero zero d le h = omega arith
+in_order m (l ∷ ls) e zero (suc j) d le h = at_least l.number ls (both_hold (leb m l.number) (rise l.number ls) e).1 j d (omega arith)
+in_order m (l ∷ ls) e (suc i) zero d le h = absurd (omega arith)
+in_order m (l ∷ ls) e (suc i) (suc j) d le h = in_order l.number ls (both_hold (leb m l.number) (rise l.number ls) e).1 i j d (omega arith) (omega arith)
 
--- of some lines the first, or refusal 10
-abbrev first_of : List Limit → Outcome Limit
-first_of [] = refuse 10 0
-first_of (l ∷ ls) = answer l
+-- a number that no line has
+unknown : (ls : List Limit) (n : ℕ) → ((k : ℕ) (d : Limit) → k < length ls → (get_or ls k d).number ≡ n → ⊥) → limits_of ls n ≡ refuse 10 0
+unknown [] n none = refl
+unknown (l ∷ ls) n none = grind (arith, nat_tests, none 0 l (omega arith), unknown ls n (λ k d h. none (suc k) d (omega arith)))
 
-found_first : (r : Line) → found r ≡ first_of (line_of r)
-found_first (Is l) = refl
-found_first End = refl
+module _ (t : Table) (n : ℕ) where
+  comparisons_rise : IsNonDecreasingBy (λ l. ordering_index (nat_cmp l.number n)) (table_of t)
+  comparisons_rise i j d le h = let up = in_order 0 (table_of t) (numbers_rise t) i j d le h in grind (arith, nat_tests)
 
--- by whether a line has the wanted number
-first_or_later : (is_it : Bool) (l : Limit) (ls : List Limit) (i : ℕ) (later : Outcome Limit) → first_of (take 1 (drop i ls)) ≡ later
-    → first_of (take 1 (drop (pick_index is_it i) (l ∷ ls))) ≡ pick_line is_it l later
-first_or_later true l ls i later e = refl
-first_or_later false l ls i later e = e
+  found : (i : ℕ) (d : Limit) → i < length (table_of t) → (get_or (table_of t) i d).number ≡ n → limits_of (table_of t) n ≡ answer (get_or (table_of t) i d)
+  found i d h e =
+      let ls = table_of t in
+      ap (limits_of ls) (sym e)
+      ∙ sym (get_or-map (λ l. limits_of ls l.number) ls i d (answer d) h)
+      ∙ ap (λ outcomes. get_or outcomes i (answer d)) (each_is_found_by_its_number t)
+      ∙ get_or-map answer ls i d (answer d) h
 
-stands_at_its_index : (ls : List Limit) (n : ℕ) → first_of (take 1 (drop (index_in (numbers_of ls) n) ls)) ≡ limits_of ls n
-stands_at_its_index [] n = refl
-stands_at_its_index (l ∷ ls) n =
-    first_or_later (eqb l.0 n) l ls (index_in (numbers_of ls) n) (limits_of ls n) (stands_at_its_index ls n)
+  -- between the lines below the number and those above it stands none that has it
+  not_in_the_gap : (i : ℕ) → IsBinarySearchResult (λ l. nat_cmp l.number n) (table_of t) (Err i) → (k : ℕ) (d : Limit) → k < length (table_of t) → (get_or (table_of t) k d).number ≡ n → ⊥
+  not_in_the_gap i parted k d h same =
+      elim (dec_le i k) [
+        | yes b ↦ omega (arith, ranked _ n _ (sym ((parted comparisons_rise).1 k d b h)))
+        | no b ↦ omega (arith, ranked _ n _ (sym ((parted comparisons_rise).0 k d (omega arith) (lt_of_not-le b))))
+      ]
 
--- the line read at a number's index is what the table has for the number
-pub found_at_its_index : (ls : List Limit) (n i : ℕ) (r : Line) → i ≡ index_in (numbers_of ls) n → line_of r ≡ take 1 (drop i ls) → found r ≡ limits_of ls n
-found_at_its_index ls n i r e read =
-    found_first r ∙ ap first_of read ∙ ap (λ k. first_of (take 1 (drop k ls))) e ∙ stands_at_its_index ls n
+  pub searched : (r : Result ℕ ℕ) → IsSearchInRange r (length (table_of t)) → IsBinarySearchResult (λ l. nat_cmp l.number n) (table_of t) r
+      → record { line : IfOk r (λ i. (d : Limit) → limits_of (table_of t) n ≡ answer (get_or (table_of t) i d)); no_line : IfErr r (λ i. limits_of (table_of t) n ≡ refuse 10 0) }
+  searched (Ok i) h equal = record { line = λ d. found i d h (ranked _ n _ (sym (equal d))); no_line = tt }
+  searched (Err i) h parted = record { line = tt; no_line = unknown (table_of t) n (not_in_the_gap i parted) }

@@ -10,19 +10,20 @@ use Rattle.limits.specs.Limits.{table_of}
 use Rattle.limits.specs.declared.Limit.{Limit}
 use Rattle.limits.specs.declared.Table.{Table}
 use Rattle.limits.specs.declared.Table.TheVariants.{Altimeter, Bursts}
-use Rattle.verdicts.specs.Verdict.{inside, limits_of, verdict_of}
+use Rattle.verdicts.specs.declared.Side.TheVariants.{Inside}
+use Rattle.verdicts.specs.Verdict.{limits_of, verdict_of}
 
-pub each_is_found_by_its_number : (t : Table) → map (λ l. limits_of (table_of t) l.0) (table_of t) ≡ map answer (table_of t)
+pub each_is_found_by_its_number : (t : Table) → map (λ l. limits_of (table_of t) l.number) (table_of t) ≡ map answer (table_of t)
 unfolding altimeter_table burst_table
 each_is_found_by_its_number Altimeter = refl
 each_is_found_by_its_number Bursts = refl
 
-pub minimums_are_inside : (t : Table) → map (λ l. verdict_of t l.0 l.1) (table_of t) ≡ map (λ l. answer inside) (table_of t)
+pub minimums_are_inside : (t : Table) → map (λ l. verdict_of t l.number l.minimum) (table_of t) ≡ map (λ l. answer Inside) (table_of t)
 unfolding altimeter_table burst_table
 minimums_are_inside Altimeter = refl
 minimums_are_inside Bursts = refl
 
-pub maximums_are_inside : (t : Table) → map (λ l. verdict_of t l.0 l.2) (table_of t) ≡ map (λ l. answer inside) (table_of t)
+pub maximums_are_inside : (t : Table) → map (λ l. verdict_of t l.number l.maximum) (table_of t) ≡ map (λ l. answer Inside) (table_of t)
 unfolding altimeter_table burst_table
 maximums_are_inside Altimeter = refl
 maximums_are_inside Bursts = refl
@@ -49,6 +50,6 @@ listed =
     element 142 (pos 1_323_000_000) (pos 1_363_000_000) ∷
     []
 
-pub listed_stand_in_the_table : map (λ l. limits_of (table_of Altimeter) l.0) listed ≡ map answer listed
+pub listed_stand_in_the_table : map (λ l. limits_of (table_of Altimeter) l.number) listed ≡ map answer listed
 unfolding altimeter_table
 listed_stand_in_the_table = refl

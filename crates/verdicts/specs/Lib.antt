@@ -1,3 +1,1 @@
 pub mod Verdict
-pub mod Judged
-pub mod Private

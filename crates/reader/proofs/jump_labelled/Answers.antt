@@ -1,12 +1,8 @@
--- `reader::jump_labelled` meets its contract: the window of the row that was jumped to, which lies inside the file, so that the window's
--- place fits.
+-- `reader::jump_labelled` meets its contract: the row that was jumped to lies inside the file, so that the window's place fits.
 use native.Mathlib.Omega.{arith}
-use mathlib.Core.Path.{◌∙◌, sym, ap}
-use Rattle.answer.specs.Outcome.{Outcome, and_then}
-use Rattle.answer.specs.Window.{window_in}
-use Rattle.answer.specs.declared.Shown.{Shown}
+use mathlib.Core.Path.{sym}
 use Rattle.reader.specs.declared.Kind.TheVariants.{Labelled}
-use Rattle.reader.specs.Read.{jump_to, jump_row}
+use Rattle.reader.specs.Read.{jump_to}
 use Rattle.reader.proofs.Found.{jumped_inside}
 use Rattle.reader.proofs.jump_labelled.Goals as goal
 
@@ -14,11 +10,4 @@ pub window_in-requires : goal.window_in-requires
 unfolding jump_to
 window_in-requires c =
     let a = c.args in
-    λ p e. omega (arith, jumped_inside (Labelled a.versions) a.file.now a.list.now a.k p (sym c.jump_to.ensures ∙ e))
-
-pub returns : goal.returns
-unfolding jump_row jump_to
-returns c =
-    let a = c.args in
-    c.window_in.ensures
-    ∙ ap (λ (o : Outcome Shown). and_then o (window_in a.a a.c)) c.jump_to.ensures
+    omega (arith, jumped_inside (Labelled a.versions) a.file.now a.list.now a.k c.in_ok-row.row (sym c.in_ok-row.ensures))

@@ -14,15 +14,10 @@ loop-rest-init c =
 pub overflow_sub-first : goal.overflow_sub-first
 overflow_sub-first c = let l = c.loop-rest in room_in_front _ l.digits l.first l.rest l.invariant c.loop-rest-test.true
 
-pub bounds-digits-first : goal.bounds-digits-first
-bounds-digits-first c = omega (arith, c.loop-rest.invariant.within)
-
 pub loop-rest-preserved : goal.loop-rest-preserved
 loop-rest-preserved c =
     let l = c.loop-rest in
     rw c.last_digit-in-loop-rest.ensures (digit_in_front _ l.digits l.first l.rest l.invariant c.loop-rest-test.true)
 
 pub returns : goal.returns
-returns c =
-    let l = c.loop-rest in
-    record { twenty = l.invariant.twenty; within = l.invariant.within; spells = nothing_left _ l.digits l.first l.rest l.invariant (omega arith) }
+returns c = let l = c.loop-rest in nothing_left _ l.digits l.first l.rest l.invariant (omega arith)
