@@ -22,7 +22,8 @@ pub struct Kind {
     pub between: usize,
 }
 
-// The number in the four bytes from place `at` on; 0 where not all four are there.
+// The number in the four bytes from place `at` on; 0 where not all four are there, which is promised to
+// callers and so is no `Option`.
 pub fn number_at(bytes: &[u8], at: usize) -> u32
     ensures { result ≡ number_at bytes.now at }
 {
@@ -79,6 +80,7 @@ pub fn front<const N: usize>(follows: u32, kind: Kind, between: &[u8]) -> [u8; N
     ensures { result ≡ le 4 follows ++ (le 2 kind.number ++ between.now) }
 {
     let mut bytes = [0; N];
+    // Parts are lent of a slice: of an array whose length is a parameter none are.
     let whole = &mut bytes[..];
     whole[..4].copy_from_slice(&little::bytes_of(follows));
     whole[4..FRONT].copy_from_slice(&little::bytes_of(kind.number)[..2]);
