@@ -41,7 +41,3 @@ entry_at (suc n) (suc i) s h =
     let further : 4 + 4 * i ≡ 4 * suc i = omega arith in
     entry_at n i (drop 4 s) (omega arith)
     ∙ ap (λ (r : List ℕ). le_number (take 4 r)) (drop-drop (4 * i) 4 s ∙ ap (λ (k : ℕ). drop k s) further)
-
--- entry i of those that begin at `first`
-pub entry_place : (first n i : ℕ) (s : List ℕ) → i < n → get_or (entries_of n (drop first s)) i 0 ≡ le_number (bytes_at s (first + 4 * i) 4)
-entry_place first n i s h = entry_at n i (drop first s) h ∙ ap (λ (r : List ℕ). le_number (take 4 r)) (drop-drop (4 * i) first s)

@@ -5,18 +5,20 @@ use native.Mathlib.Omega.{arith}
 use mathlib.Core.Path.{◌≡◌, ◌∙◌, sym, ap, ap₂}
 use mathlib.Core.Bool.{true}
 use mathlib.Core.List.{List, ◌++◌}
-use lib.ListN.{length, take, drop, length-drop, take-append-drop}
+use lib.ListN.{length, get_or, take, drop, length-drop, take-append-drop}
 use lib.Seq.{drop-drop, drop-append_seam, length-take-le}
 use borrow.Author.Tests.{eq-eqb}
-use Rattle.answer.specs.Outcome.{answer}
+use Rattle.answer.specs.Outcome.{Outcome, answer}
+use Rattle.answer.specs.Filled.{Writes}
+use Rattle.answer.proofs.Parts.{all_that_is_left}
 use Rattle.answer.specs.Window.{bytes_at}
 use Rattle.answer.proofs.Outcomes.{passed, answer_injective}
 use Rattle.little.specs.LittleEndian.{le, le_number, Below}
-use Rattle.little.proofs.LittleEndian.{number_of_bytes, bytes_of_number, below_in_the_front, below_in_the_rest}
-use Rattle.house_record.specs.Record.{entry_bytes, house_record, kept_as, entries_of, is_kept, read_as}
-use Rattle.house_record.proofs.Entries.{entries_of_bytes, bytes_of_entries}
+use Rattle.little.proofs.LittleEndian.{number_of_bytes, bytes_of_number, below_in_the_front, below_in_the_rest, each_below}
+use Rattle.house_record.specs.Record.{entry_bytes, house_record, kept_as, in_room, entries_of, is_kept, read_as}
+use Rattle.house_record.proofs.Entries.{length_entries, entries_of_bytes, bytes_of_entries}
 use Rattle.house_record.proofs.Reading.{whole_entries_decide, accepted}
-use Rattle.house_record.proofs.Writing.{length_kept_as}
+use Rattle.house_record.proofs.Writing.{length_kept_as, in_two_pieces}
 
 -- what was kept, in a record of any kind, reads back
 module _ (kind : ℕ) (between xs : List ℕ) (two : kind < 2 ^ 16) (entries : Below (2 ^ 32) xs) (four : 2 + (length between + 4 * length xs) < 2 ^ 32) where
@@ -89,3 +91,15 @@ module _ (kind first : ℕ) (s xs : List ℕ) (head : 6 ≤ first) (bytes : Belo
       ∙ ap (λ (t : List ℕ). take 4 s ++ t)
       (ap (λ (t : List ℕ). bytes_at s 4 2 ++ t) (sym (drop-drop 2 4 s)) ∙ take-append-drop 2 (drop 4 s))
       ∙ take-append-drop 4 s
+
+-- the entries of a record, put behind the front of a record of another kind
+pub put_again : (kind first other follows : ℕ) (between s xs front old new : List ℕ) (r : Outcome ℕ) → 6 ≤ first → ((i : ℕ) → get_or s i 0 < 256)
+    → read_as kind first s ≡ answer xs → follows + first ≡ 2 + (length between + length s) → front ≡ le 4 follows ++ (le 2 other ++ between)
+    → Writes (in_room (length old) (front ++ take (length s - first) (drop first s))) old r new → Writes (in_room (length old) (kept_as other between xs)) old r new
+put_again kind first other follows between s xs front old new r head small reads size is writes =
+    let bytes = each_below 256 s (λ i h. small i) in
+    let (kept, entries) = entries_were_read kind first s xs head bytes reads in
+    let a = accepted kind first s kept in
+    let many : length xs ≡ (length s - first) / 4 = ap length (sym (answer_injective entries)) ∙ length_entries ((length s - first) / 4) (drop first s) in
+    rw (in_two_pieces other between xs follows (omega (arith, a.long, a.whole, many, size)), entries_are_the_rest kind first s xs head bytes reads)
+    (rw (is, all_that_is_left s first) at writes)

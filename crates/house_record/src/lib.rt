@@ -15,7 +15,15 @@ use answer::{Refusal, Refused};
 // The bytes of the length and the kind, in front of all else.
 pub const FRONT: usize = 6;
 
-// The number in the four bytes from place `at` on; 0 where not all four are there.
+// A kind of record: its number, and how many bytes stand between the kind and the entries.
+#[derive(Clone, Copy)]
+pub struct Kind {
+    pub number: u32,
+    pub between: usize,
+}
+
+// The number in the four bytes from place `at` on; 0 where not all four are there, which is promised to
+// callers and so is no `Option`.
 pub fn number_at(bytes: &[u8], at: usize) -> u32
     ensures { result ≡ number_at bytes.now at }
 {
@@ -25,16 +33,15 @@ pub fn number_at(bytes: &[u8], at: usize) -> u32
     little::four_at(bytes, at)
 }
 
-// Whether these bytes are a whole record of this kind, with so many bytes between the kind and the
-// entries.
-pub fn is_record(kind: u32, between: usize, bytes: &[u8]) -> bool
-    ensures { result ≡ is_kept kind (6 + between) bytes.now }
+// Whether these bytes are a whole record of this kind.
+pub fn is_record(kind: Kind, bytes: &[u8]) -> bool
+    ensures { result ≡ is_kept kind.number (6 + kind.between) bytes.now }
 {
     FRONT <= bytes.len()
-        && between <= bytes.len() - FRONT
+        && kind.between <= bytes.len() - FRONT
         && little::four_at(bytes, 0) as usize == bytes.len() - 4
-        && little::two_at(bytes, 4) == kind
-        && (bytes.len() - FRONT - between) % 4 == 0
+        && little::two_at(bytes, 4) == kind.number
+        && (bytes.len() - FRONT - kind.between) % 4 == 0
 }
 
 // Reads as many entries as the list has from bytes that are just so many.
@@ -47,17 +54,17 @@ fn take_entries(bytes: &[u8], list: &mut [u32])
     }
 }
 
-// Reads the list that a record of this kind keeps, with so many bytes between the kind and the entries,
-// to the front of `list`, and answers how many entries it has: 13, then 8.
+// Reads the list that a record of this kind keeps to the front of `list`, and answers how many entries
+// it has: 13, then 8.
 #[tactic(auto, unfolding(crate::specs::Record::load_as, crate::specs::Record::read_as), using(crate::proofs::Entries::length_entries))]
-pub fn load(kind: u32, between: usize, bytes: &[u8], list: &mut [u32]) -> Result<usize, Refused>
-    ensures { Writes (load_as kind (6 + between) bytes.now (length list.old))
+pub fn load(kind: Kind, bytes: &[u8], list: &mut [u32]) -> Result<usize, Refused>
+    ensures { Writes (load_as kind.number (6 + kind.between) bytes.now (length list.old))
         list.old (told result) list.new }
 {
-    if !is_record(kind, between, bytes) {
+    if !is_record(kind, bytes) {
         return Err(Refused(Refusal::BadKept, 0));
     }
-    let entries = &bytes[FRONT + between..];
+    let entries = &bytes[FRONT + kind.between..];
     let count = entries.len() / 4;
     if list.len() < count {
         return Err(Refused(Refusal::Small, 0));
@@ -68,14 +75,15 @@ pub fn load(kind: u32, between: usize, bytes: &[u8], list: &mut [u32]) -> Result
 
 // What stands in front of a record's entries: its length, how many bytes follow it, its kind, and what
 // this kind has between the kind and the entries.
-pub fn front<const N: usize>(follows: u32, kind: u32, between: &[u8]) -> [u8; N]
+pub fn front<const N: usize>(follows: u32, kind: Kind, between: &[u8]) -> [u8; N]
     requires { N ≡ 6 + length between.now }
-    ensures { result ≡ le 4 follows ++ (le 2 kind ++ between.now) }
+    ensures { result ≡ le 4 follows ++ (le 2 kind.number ++ between.now) }
 {
     let mut bytes = [0; N];
+    // Parts are lent of a slice: of an array whose length is a parameter none are.
     let whole = &mut bytes[..];
     whole[..4].copy_from_slice(&little::bytes_of(follows));
-    whole[4..FRONT].copy_from_slice(&little::bytes_of(kind)[..2]);
+    whole[4..FRONT].copy_from_slice(&little::bytes_of(kind.number)[..2]);
     whole[FRONT..].copy_from_slice(between);
     bytes
 }

@@ -10,9 +10,13 @@ ghost use Rattle.house_record.specs.Record.{entry_bytes};
 ghost use Rattle.kept.specs.Kept.{keep_index, load_kept};
 
 use answer::{Refusal, Refused};
+use house_record::Kind;
 
-// The kind's number.
-pub const KIND: u32 = 1;
+// Kind 1: nothing stands between the kind and the entries.
+pub const KIND: Kind = Kind {
+    number: 1,
+    between: 0,
+};
 
 // Writes the entries to bytes that are just so many, four each.
 #[tactic(auto, using(crate::proofs::Entries::one_entry_put))]
@@ -54,5 +58,5 @@ pub fn load(bytes: &[u8], list: &mut [u32]) -> Result<usize, Refused>
     ensures { Writes (load_kept bytes.now (length list.old))
         list.old (told result) list.new }
 {
-    house_record::load(KIND, 0, bytes, list)
+    house_record::load(KIND, bytes, list)
 }

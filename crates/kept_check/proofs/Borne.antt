@@ -22,13 +22,11 @@ use Rattle.row_index.proofs.Sixteenths.{one_entry_a_group}
 use Rattle.row_index.proofs.IndexExact.{same_is_equal}
 use Rattle.row_index.proofs.Building.{rows_counted, no_rows}
 use Rattle.little.specs.LittleEndian.{le, le_number}
-use Rattle.little.proofs.LittleEndian.{each_below}
 use Rattle.house_record.specs.Record.{in_room, number_at, entries_of, is_kept, read_as}
 use Rattle.kept.specs.Kept.{read_kept}
 use Rattle.house_record.proofs.Entries.{length_entries}
 use Rattle.house_record.proofs.Reading.{accepted, all_there, record_reads}
-use Rattle.house_record.proofs.RoundTrip.{entries_are_the_rest}
-use Rattle.house_record.proofs.Writing.{in_two_pieces}
+use Rattle.house_record.proofs.RoundTrip.{put_again}
 use Rattle.kept_rows.specs.Kind2.{kept_form2, with_rows}
 use Rattle.kept_rows.proofs.Kind2.{rows_are_there}
 use Rattle.kept_check.specs.Check.{bears_out, to_kind2, check_kept2}
@@ -161,14 +159,10 @@ module _ (versions : Versions) where
   put_there n follows front f s old new r e bytes field is writes =
       let room = length old in
       let b = borne 1 6 f s n (sym e) in
-      let a = accepted 1 6 s b.is_record in
-      let xs = entries_of ((length s - 6) / 4) (drop 6 s) in
       let reads = record_reads 1 6 s b.is_record in
-      let size : follows + 4 ≡ 2 + (length (le 4 n) + 4 * length xs) =
-      omega (arith, field ∙ all_there s 0 (omega (arith, a.long)), a.size, a.long, a.whole, length_entries ((length s - 6) / 4) (drop 6 s)) in
-      let rest = entries_are_the_rest 1 6 s xs (omega arith) (each_below 256 s (λ i h. bytes i)) reads in
+      let xs = entries_of ((length s - 6) / 4) (drop 6 s) in
       rw
       (there_by_rows f s room
       ∙ after_answer (rows_borne_out versions 1 6 f s) (λ m. and_then (read_kept s) (λ ys. in_room room (kept_form2 (record { rows = m; list = ys })))) n (sym e)
       ∙ after_answer (read_kept s) (λ ys. in_room room (kept_form2 (record { rows = n; list = ys }))) xs reads)
-      (rw (in_two_pieces 2 (le 4 n) xs (follows + 4) size, rest) (rw (is, all_that_is_left s 6) at writes))
+      (put_again 1 6 2 (follows + 4) (le 4 n) s xs front old new r (omega arith) bytes reads (omega (arith, field, sizes_there f s n e)) is writes)

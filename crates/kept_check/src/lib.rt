@@ -12,6 +12,7 @@ ghost use Rattle.kept_check.specs.Check.{to_kind2, check_kept2};
 ghost use Rattle.kept_check.specs.Private.{rows_borne_out};
 
 use answer::{Refusal, Refused};
+use house_record::Kind;
 use label::Versions;
 use row_index::IndexList;
 
@@ -35,23 +36,21 @@ impl IndexList for Entries<'_> {
     }
 }
 
-// How many rows the file has, where a record of this kind, with so many bytes between the kind and the
-// entries, keeps its index: 14, faults, 13, 11.
+// How many rows the file has, where a record of this kind keeps its index: 14, faults, 13, 11.
 #[tactic(auto, using(crate::proofs::Borne::not_accepted, crate::proofs::Borne::no_record, crate::proofs::Borne::as_indexed))]
 fn rows_borne_out(
     versions: Versions,
     file: &[u8],
-    kind: u32,
-    between: usize,
+    kind: Kind,
     kept: &[u8],
 ) -> Result<usize, Refused>
-    ensures { told result ≡ rows_borne_out versions kind (6 + between) file.now kept.now }
+    ensures { told result ≡ rows_borne_out versions kind.number (6 + kind.between) file.now kept.now }
 {
-    if !house_record::is_record(kind, between, kept) {
+    if !house_record::is_record(kind, kept) {
         labelled::check(versions, file)?;
         return Err(Refused(Refusal::BadKept, 0));
     }
-    let bytes = &kept[house_record::FRONT + between..];
+    let bytes = &kept[house_record::FRONT + kind.between..];
     row_index::rows_indexed(versions, file, Entries { bytes })
 }
 
@@ -61,7 +60,7 @@ fn rows_borne_out(
 pub fn check(versions: Versions, file: &[u8], kept: &[u8]) -> Result<(), Refused>
     ensures { told result ≡ check_kept2 versions file.now kept.now }
 {
-    let rows = rows_borne_out(versions, file, kept_rows::KIND, kept_rows::COUNT, kept)?;
+    let rows = rows_borne_out(versions, file, kept_rows::KIND, kept)?;
     let told = house_record::number_at(kept, house_record::FRONT) as usize;
     if told != rows {
         return Err(Refused(Refusal::BadIndex, 0));
@@ -81,7 +80,7 @@ pub fn to_kind_2(
     ensures { Writes (to_kind2 versions file.now kept.now (length out.old))
         out.old (told result) out.new }
 {
-    let rows = rows_borne_out(versions, file, kept::KIND, 0, kept)?;
+    let rows = rows_borne_out(versions, file, kept::KIND, kept)?;
     let follows = house_record::number_at(kept, 0) + 4;
     let front: [u8; kept_rows::ENTRIES] = house_record::front(
         follows,

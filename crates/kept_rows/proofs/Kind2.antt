@@ -1,21 +1,17 @@
 -- The row count of kind 2, and turning it back, case by case.
-use Prim.Native.Nat.{ℕ, ◌+◌, ◌*◌, ◌-◌, ◌/◌, ◌<◌}
+use Prim.Native.Nat.{ℕ, ◌+◌, ◌-◌, ◌<◌}
 use native.Mathlib.Omega.{arith}
 use mathlib.Core.Path.{◌≡◌, ◌∙◌}
 use mathlib.Core.Bool.{true, false}
 use mathlib.Core.List.{List, [], ◌++◌}
 use lib.ListN.{length, get_or, take, drop}
 use Rattle.answer.specs.Filled.{Writes}
-use Rattle.answer.proofs.Parts.{all_that_is_left}
-use Rattle.little.proofs.LittleEndian.{each_below}
 use Rattle.answer.specs.Outcome.{Outcome, refuse}
 use Rattle.answer.specs.Window.{bytes_at}
 use Rattle.little.specs.LittleEndian.{le, le_number}
-use Rattle.house_record.specs.Record.{number_at, entries_of, is_kept, read_as, in_room}
-use Rattle.house_record.proofs.Entries.{length_entries}
+use Rattle.house_record.specs.Record.{number_at, is_kept, read_as, in_room}
 use Rattle.house_record.proofs.Reading.{accepted, all_there, record_reads}
-use Rattle.house_record.proofs.Writing.{in_two_pieces}
-use Rattle.house_record.proofs.RoundTrip.{entries_are_the_rest}
+use Rattle.house_record.proofs.RoundTrip.{put_again}
 use Rattle.kept_rows.specs.Kind2.{to_kind1}
 
 -- the row count, where bytes are a record of kind 2
@@ -34,9 +30,6 @@ pub put_back : (follows : ℕ) (front s old new : List ℕ) (r : Outcome ℕ) �
 unfolding to_kind1
 put_back follows front s old new r kept bytes field is writes =
     let a = accepted 2 10 s kept in
+    let size : follows - 4 + 10 ≡ 2 + (length {A = ℕ} [] + length s) = omega (arith, a.long, a.size, field ∙ all_there s 0 (omega (arith, a.long))) in
     let reads = record_reads 2 10 s kept in
-    let xs = entries_of ((length s - 10) / 4) (drop 10 s) in
-    let size : follows - 4 ≡ 2 + (length {A = ℕ} [] + 4 * length xs) =
-    omega (arith, a.long, a.size, a.whole, field ∙ all_there s 0 (omega (arith, a.long)), length_entries ((length s - 10) / 4) (drop 10 s)) in
-    let rest = entries_are_the_rest 2 10 s xs (omega arith) (each_below 256 s (λ i h. bytes i)) reads in
-    rw (reads, in_two_pieces 1 [] xs (follows - 4) size, rest) (rw (is, all_that_is_left s 10) at writes)
+    rw reads (put_again 2 10 1 (follows - 4) [] s _ front old new r (omega arith) bytes reads size is writes)

@@ -11,12 +11,18 @@ ghost use Rattle.answer.specs.Filled.{Writes, filled};
 ghost use Rattle.kept_rows.specs.Kind2.{list_of, loaded_of, load_kept2, to_kind1};
 
 use answer::{Refusal, Refused};
+use house_record::Kind;
 
-// The kind's number, the bytes of the row count behind it, and the place of the first entry.
-pub const KIND: u32 = 2;
-
+// The bytes of the row count.
 pub const COUNT: usize = 4;
 
+// Kind 2: the row count stands between the kind and the entries.
+pub const KIND: Kind = Kind {
+    number: 2,
+    between: COUNT,
+};
+
+// The place of the first entry.
 pub const ENTRIES: usize = house_record::FRONT + COUNT;
 
 // What a record of kind 2 tells: how many rows the file has, and how many entries its index has.
@@ -34,7 +40,7 @@ pub fn load(kept: &[u8], list: &mut [u32]) -> Result<Loaded, Refused>
     ensures leaves { list.new ≡ filled (mapped list_of (load_kept2 kept.now (length list.old)))
         list.old }
 {
-    let entries = house_record::load(KIND, COUNT, kept, list)?;
+    let entries = house_record::load(KIND, kept, list)?;
     let rows = house_record::number_at(kept, house_record::FRONT) as usize;
     Ok(Loaded { rows, entries })
 }
@@ -46,7 +52,7 @@ pub fn to_kind_1(kept: &[u8], out: &mut [u8]) -> Result<usize, Refused>
     ensures { Writes (to_kind1 kept.now (length out.old))
         out.old (told result) out.new }
 {
-    if !house_record::is_record(KIND, COUNT, kept) {
+    if !house_record::is_record(KIND, kept) {
         return Err(Refused(Refusal::BadKept, 0));
     }
     let follows = house_record::number_at(kept, 0) - 4;
