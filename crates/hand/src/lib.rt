@@ -110,13 +110,7 @@ pub fn side(answer: Result<Side, Refused>, number: &mut usize) -> Status
     ensures value { result ≡ status_of (told answer) }
     ensures number_after { number.new ≡ handed side_number (told answer) number.old }
 {
-    match answer {
-        Ok(side) => {
-            *number = side_number(side);
-            DONE
-        }
-        Err(refused) => Status::from(refused),
-    }
+    value(answer.map(side_number), number)
 }
 
 // What a field holds, in numbers: that of its type, its bits, and of a text the place and how many
