@@ -17,7 +17,6 @@ ghost use Rattle.label.specs.Label.{read_label};
 ghost use Rattle.reader.specs.Rows.{check_file};
 ghost use Rattle.reader.specs.Read.{read_row, jump_row, row_from};
 ghost use Rattle.dots.specs.Tone.{tone};
-ghost use Rattle.dots.specs.Dot.{bit};
 ghost use Rattle.plotter.specs.Strip.{strip_into};
 ghost use Rattle.trace.specs.Behind.{dot_numbers, dot_behind};
 ghost use Rattle.substitute.specs.Chosen.{source_number};
@@ -34,17 +33,18 @@ ghost use Rattle.verdicts.specs.Verdict.{verdict_of};
 ghost use Rattle.burst_fields.specs.Fields.{field_of, field_verdict};
 ghost use Rattle.burst_codes.specs.Beams.{verdict_in, beams_of};
 ghost use Rattle.burst_codes.specs.Modes.{numbered};
-ghost use Rattle.hand.specs.Handed.{result_of, handed};
-ghost use Rattle.hand.specs.Parts.{four_bytes, row_numbers, side_number, in_numbers, beams_handed, mode_handed};
+ghost use Rattle.hand.specs.Handed.{status_of, handed};
+ghost use Rattle.hand.specs.Parts.{row_numbers, side_number, in_numbers, beams_handed, mode_handed};
 ghost use Rattle.hand.specs.Numbers.{choice_of, write_numbered};
 
-use answer::Refused;
-use burst_codes::{Compression, Enabled};
-use hand::Result;
+use answer::{Refused, Window};
+use hand::{Status, Stored};
+use label::Version;
 use limits::Table;
-use orbit::Open;
 use reader::Kind;
+use row_index::Built;
 use substitute::Source;
+use trace::Dot;
 
 // The label at the front of the bytes.
 #[unsafe(no_mangle)]
@@ -57,30 +57,26 @@ pub extern "C" fn crest_read_label(
     description: &mut [u8; 4],
     length: &mut usize,
     spaces: &mut u8,
-) -> Result
-    ensures value { result ≡ result_of (read_label (choice_of version_2) bytes.now) }
-    ensures agency_after { agency.new ≡ handed (λ l. four_bytes l.agency) (read_label (choice_of version_2) bytes.now) agency.old }
+) -> Status
+    ensures value { result ≡ status_of (read_label (choice_of version_2) bytes.now) }
+    ensures agency_after { agency.new ≡ handed (λ l. l.agency) (read_label (choice_of version_2) bytes.now) agency.old }
     ensures version_after { version.new ≡ handed (λ l. version_number l.version) (read_label (choice_of version_2) bytes.now) version.old }
     ensures class_after { class.new ≡ handed (λ l. l.class) (read_label (choice_of version_2) bytes.now) class.old }
-    ensures description_after { description.new ≡ handed (λ l. four_bytes l.description) (read_label (choice_of version_2) bytes.now) description.old }
+    ensures description_after { description.new ≡ handed (λ l. l.description) (read_label (choice_of version_2) bytes.now) description.old }
     ensures length_after { length.new ≡ handed (λ l. l.length) (read_label (choice_of version_2) bytes.now) length.old }
     ensures spaces_after { spaces.new ≡ handed (λ l. l.spaces) (read_label (choice_of version_2) bytes.now) spaces.old }
 {
     match label::read_label(hand::choice(version_2), bytes) {
         Ok(l) => {
-            let by = l.agency;
-            let about = l.description;
-            let of = l.version;
-            let number = hand::version_number(of);
-            *agency = [by.a, by.b, by.c, by.d];
-            *version = number;
+            *agency = l.agency;
+            *version = l.version.number();
             *class = l.class;
-            *description = [about.a, about.b, about.c, about.d];
+            *description = l.description;
             *length = l.length;
             *spaces = l.spaces;
             hand::DONE
         }
-        Err(Refused(why, place)) => hand::refused(why, place),
+        Err(refused) => Status::from(refused),
     }
 }
 
@@ -93,26 +89,24 @@ pub extern "C" fn crest_write_label(
     length: usize,
     out: &mut [u8],
     written: &mut usize,
-) -> Result
-    ensures value { result ≡ result_of (write_numbered version head.now length (size out.old)) }
+) -> Status
+    ensures value { result ≡ status_of (write_numbered version head.now length (size out.old)) }
     ensures out_after { out.new ≡ filled (write_numbered version head.now length (size out.old)) out.old }
     ensures written_after { written.new ≡ handed size (write_numbered version head.now length (size out.old)) written.old }
 {
-    match hand::version_with(version) {
-        Ok(known) => {
-            hand::count(label_writer::write_label(known, head, length, out), written)
-        }
-        Err(Refused(why, place)) => hand::refused(why, place),
+    match Version::try_from(version) {
+        Ok(known) => { hand::value(label_writer::write_label(known, head, length, out), written) }
+        Err(refused) => Status::from(refused),
     }
 }
 
 // How many rows a labelled file has.
 #[unsafe(no_mangle)]
-pub extern "C" fn crest_check_labelled(file: &[u8], version_2: bool, rows: &mut usize) -> Result
-    ensures value { result ≡ result_of (check_file (Kind.Labelled (choice_of version_2)) file.now) }
+pub extern "C" fn crest_check_labelled(file: &[u8], version_2: bool, rows: &mut usize) -> Status
+    ensures value { result ≡ status_of (check_file (Kind.Labelled (choice_of version_2)) file.now) }
     ensures rows_after { rows.new ≡ handed (λ n. n) (check_file (Kind.Labelled (choice_of version_2)) file.now) rows.old }
 {
-    hand::count(
+    hand::value(
         reader::check(Kind::Labelled(hand::choice(version_2)), file),
         rows,
     )
@@ -120,20 +114,20 @@ pub extern "C" fn crest_check_labelled(file: &[u8], version_2: bool, rows: &mut 
 
 // How many rows a waveform file has.
 #[unsafe(no_mangle)]
-pub extern "C" fn crest_check_waveform(file: &[u8], rows: &mut usize) -> Result
-    ensures value { result ≡ result_of (check_file Kind.Waveform file.now) }
+pub extern "C" fn crest_check_waveform(file: &[u8], rows: &mut usize) -> Status
+    ensures value { result ≡ status_of (check_file Kind.Waveform file.now) }
     ensures rows_after { rows.new ≡ handed (λ n. n) (check_file Kind.Waveform file.now) rows.old }
 {
-    hand::count(reader::check(Kind::Waveform, file), rows)
+    hand::value(reader::check(Kind::Waveform, file), rows)
 }
 
 // How many records a burst file has from its first one on.
 #[unsafe(no_mangle)]
-pub extern "C" fn crest_check_bursts(file: &[u8], start: usize, rows: &mut usize) -> Result
-    ensures value { result ≡ result_of (check_file (Kind.Bursts start) file.now) }
+pub extern "C" fn crest_check_bursts(file: &[u8], start: usize, rows: &mut usize) -> Status
+    ensures value { result ≡ status_of (check_file (Kind.Bursts start) file.now) }
     ensures rows_after { rows.new ≡ handed (λ n. n) (check_file (Kind.Bursts start) file.now) rows.old }
 {
-    hand::count(reader::check(Kind::Bursts(start), file), rows)
+    hand::value(reader::check(Kind::Bursts(start), file), rows)
 }
 
 // A window of a labelled file's row, read from the first byte.
@@ -145,8 +139,8 @@ pub extern "C" fn crest_read_row_labelled(
     first: usize,
     count: usize,
     shown: &mut [usize; 6],
-) -> Result
-    ensures value { result ≡ result_of (read_row (Kind.Labelled (choice_of version_2)) file.now row first count) }
+) -> Status
+    ensures value { result ≡ status_of (read_row (Kind.Labelled (choice_of version_2)) file.now row first count) }
     ensures shown_after { shown.new ≡ handed (row_numbers shown.old) (read_row (Kind.Labelled (choice_of version_2)) file.now row first count) shown.old }
 {
     hand::row(
@@ -154,8 +148,7 @@ pub extern "C" fn crest_read_row_labelled(
             Kind::Labelled(hand::choice(version_2)),
             file,
             row,
-            first,
-            count,
+            Window { first, count },
         ),
         shown,
     )
@@ -169,12 +162,12 @@ pub extern "C" fn crest_read_row_waveform(
     first: usize,
     count: usize,
     shown: &mut [usize; 6],
-) -> Result
-    ensures value { result ≡ result_of (read_row Kind.Waveform file.now row first count) }
+) -> Status
+    ensures value { result ≡ status_of (read_row Kind.Waveform file.now row first count) }
     ensures shown_after { shown.new ≡ handed (row_numbers shown.old) (read_row Kind.Waveform file.now row first count) shown.old }
 {
     hand::row(
-        reader::read_row(Kind::Waveform, file, row, first, count),
+        reader::read_row(Kind::Waveform, file, row, Window { first, count }),
         shown,
     )
 }
@@ -188,12 +181,12 @@ pub extern "C" fn crest_read_row_bursts(
     first: usize,
     count: usize,
     shown: &mut [usize; 6],
-) -> Result
-    ensures value { result ≡ result_of (read_row (Kind.Bursts start) file.now row first count) }
+) -> Status
+    ensures value { result ≡ status_of (read_row (Kind.Bursts start) file.now row first count) }
     ensures shown_after { shown.new ≡ handed (row_numbers shown.old) (read_row (Kind.Bursts start) file.now row first count) shown.old }
 {
     hand::row(
-        reader::read_row(Kind::Bursts(start), file, row, first, count),
+        reader::read_row(Kind::Bursts(start), file, row, Window { first, count }),
         shown,
     )
 }
@@ -208,12 +201,18 @@ pub extern "C" fn crest_jump_labelled(
     first: usize,
     count: usize,
     shown: &mut [usize; 6],
-) -> Result
-    ensures value { result ≡ result_of (jump_row (Kind.Labelled (choice_of version_2)) file.now list.now row first count) }
+) -> Status
+    ensures value { result ≡ status_of (jump_row (Kind.Labelled (choice_of version_2)) file.now list.now row first count) }
     ensures shown_after { shown.new ≡ handed (row_numbers shown.old) (jump_row (Kind.Labelled (choice_of version_2)) file.now list.now row first count) shown.old }
 {
     hand::row(
-        reader::jump_labelled(hand::choice(version_2), file, list, row, first, count),
+        reader::jump_labelled(
+            hand::choice(version_2),
+            file,
+            list,
+            row,
+            Window { first, count },
+        ),
         shown,
     )
 }
@@ -226,11 +225,14 @@ pub extern "C" fn crest_jump_waveform(
     first: usize,
     count: usize,
     shown: &mut [usize; 6],
-) -> Result
-    ensures value { result ≡ result_of (jump_row Kind.Waveform file.now [] row first count) }
+) -> Status
+    ensures value { result ≡ status_of (jump_row Kind.Waveform file.now [] row first count) }
     ensures shown_after { shown.new ≡ handed (row_numbers shown.old) (jump_row Kind.Waveform file.now [] row first count) shown.old }
 {
-    hand::row(reader::jump_waveform(file, row, first, count), shown)
+    hand::row(
+        reader::jump_waveform(file, row, Window { first, count }),
+        shown,
+    )
 }
 
 // A window of a burst file's record, jumped to with no list.
@@ -242,11 +244,14 @@ pub extern "C" fn crest_jump_bursts(
     first: usize,
     count: usize,
     shown: &mut [usize; 6],
-) -> Result
-    ensures value { result ≡ result_of (jump_row (Kind.Bursts start) file.now [] row first count) }
+) -> Status
+    ensures value { result ≡ status_of (jump_row (Kind.Bursts start) file.now [] row first count) }
     ensures shown_after { shown.new ≡ handed (row_numbers shown.old) (jump_row (Kind.Bursts start) file.now [] row first count) shown.old }
 {
-    hand::row(reader::jump_bursts(file, start, row, first, count), shown)
+    hand::row(
+        reader::jump_bursts(file, start, row, Window { first, count }),
+        shown,
+    )
 }
 
 // The first row of a labelled file from a place on.
@@ -256,8 +261,8 @@ pub extern "C" fn crest_row_from_labelled(
     version_2: bool,
     from: usize,
     shown: &mut [usize; 6],
-) -> Result
-    ensures value { result ≡ result_of (row_from (Kind.Labelled (choice_of version_2)) file.now from) }
+) -> Status
+    ensures value { result ≡ status_of (row_from (Kind.Labelled (choice_of version_2)) file.now from) }
     ensures shown_after { shown.new ≡ handed (row_numbers shown.old) (row_from (Kind.Labelled (choice_of version_2)) file.now from) shown.old }
 {
     hand::row(
@@ -272,8 +277,8 @@ pub extern "C" fn crest_row_from_waveform(
     file: &[u8],
     from: usize,
     shown: &mut [usize; 6],
-) -> Result
-    ensures value { result ≡ result_of (row_from Kind.Waveform file.now from) }
+) -> Status
+    ensures value { result ≡ status_of (row_from Kind.Waveform file.now from) }
     ensures shown_after { shown.new ≡ handed (row_numbers shown.old) (row_from Kind.Waveform file.now from) shown.old }
 {
     hand::row(waveform::row_from(file, from), shown)
@@ -286,8 +291,8 @@ pub extern "C" fn crest_row_from_bursts(
     start: usize,
     from: usize,
     shown: &mut [usize; 6],
-) -> Result
-    ensures value { result ≡ result_of (row_from (Kind.Bursts start) file.now from) }
+) -> Status
+    ensures value { result ≡ status_of (row_from (Kind.Bursts start) file.now from) }
     ensures shown_after { shown.new ≡ handed (row_numbers shown.old) (row_from (Kind.Bursts start) file.now from) shown.old }
 {
     hand::row(bursts::row_from(file, start, from), shown)
@@ -313,25 +318,23 @@ pub extern "C" fn crest_substitute_row(
     row: usize,
     source: &mut usize,
     shown: &mut [usize; 6],
-) -> Result
-    ensures value { result ≡ result_of (read_either (choice_of version_2) original.now substitute.now row) }
+) -> Status
+    ensures value { result ≡ status_of (read_either (choice_of version_2) original.now substitute.now row) }
     ensures source_after { source.new ≡ handed (λ c. source_number c.source) (read_either (choice_of version_2) original.now substitute.now row) source.old }
     ensures shown_after { shown.new ≡ handed (λ c. row_numbers shown.old c.row) (read_either (choice_of version_2) original.now substitute.now row) shown.old }
 {
     match substitute::read_row(hand::choice(version_2), original, substitute, row) {
         Ok(found) => {
-            let from = found.source;
-            *source = source_number(from);
-            let whole = found.row;
-            hand::row(Ok(whole), shown)
+            *source = source_number(found.source);
+            hand::row(Ok(found.row), shown)
         }
-        Err(Refused(why, place)) => hand::refused(why, place),
+        Err(refused) => Status::from(refused),
     }
 }
 
 // How many entries of an index were written, and for how many rows.
-fn indexed(answer: Result<Built, Refused>, entries: &mut usize, rows: &mut usize) -> Result
-    ensures value { result ≡ result_of (told answer) }
+fn indexed(answer: Result<Built, Refused>, entries: &mut usize, rows: &mut usize) -> Status
+    ensures value { result ≡ status_of (told answer) }
     ensures entries_after { entries.new ≡ handed (λ b. b.entries) (told answer) entries.old }
     ensures rows_after { rows.new ≡ handed (λ b. b.rows) (told answer) rows.old }
 {
@@ -341,7 +344,7 @@ fn indexed(answer: Result<Built, Refused>, entries: &mut usize, rows: &mut usize
             *rows = b.rows;
             hand::DONE
         }
-        Err(Refused(why, place)) => hand::refused(why, place),
+        Err(refused) => Status::from(refused),
     }
 }
 
@@ -353,8 +356,8 @@ pub extern "C" fn crest_build_index(
     list: &mut [u32],
     entries: &mut usize,
     rows: &mut usize,
-) -> Result
-    ensures value { result ≡ result_of (mapped built_of (build_index (choice_of version_2) file.now (size list.old))) }
+) -> Status
+    ensures value { result ≡ status_of (mapped built_of (build_index (choice_of version_2) file.now (size list.old))) }
     ensures list_after { list.new ≡ filled (mapped index_of (build_index (choice_of version_2) file.now (size list.old))) list.old }
     ensures entries_after { entries.new ≡ handed (λ b. b.entries) (mapped built_of (build_index (choice_of version_2) file.now (size list.old))) entries.old }
     ensures rows_after { rows.new ≡ handed (λ b. b.rows) (mapped built_of (build_index (choice_of version_2) file.now (size list.old))) rows.old }
@@ -367,19 +370,19 @@ pub extern "C" fn crest_build_index(
 }
 
 // A list, or a record, that is the file's, or not.
-fn verified(answer: Result<(), Refused>) -> Result
-    ensures { result ≡ result_of (told answer) }
+fn verified(answer: Result<(), Refused>) -> Status
+    ensures { result ≡ status_of (told answer) }
 {
     match answer {
         Ok(()) => hand::DONE,
-        Err(Refused(why, place)) => hand::refused(why, place),
+        Err(refused) => Status::from(refused),
     }
 }
 
 // Whether the whole list is the index of a labelled file.
 #[unsafe(no_mangle)]
-pub extern "C" fn crest_check_index(file: &[u8], version_2: bool, list: &[u32]) -> Result
-    ensures { result ≡ result_of (check_index (choice_of version_2) file.now list.now) }
+pub extern "C" fn crest_check_index(file: &[u8], version_2: bool, list: &[u32]) -> Status
+    ensures { result ≡ status_of (check_index (choice_of version_2) file.now list.now) }
 {
     verified(row_index::check_index(hand::choice(version_2), file, list))
 }
@@ -396,8 +399,8 @@ pub extern "C" fn crest_joined_index(
     list: &mut [u32],
     entries: &mut usize,
     rows: &mut usize,
-) -> Result
-    ensures value { result ≡ result_of (mapped built_of (join_index (choice_of version_2) first.now index.now second.now other.now (size list.old))) }
+) -> Status
+    ensures value { result ≡ status_of (mapped built_of (join_index (choice_of version_2) first.now index.now second.now other.now (size list.old))) }
     ensures list_after { list.new ≡ filled (mapped index_of (join_index (choice_of version_2) first.now index.now second.now other.now (size list.old))) list.old }
     ensures entries_after { entries.new ≡ handed (λ b. b.entries) (mapped built_of (join_index (choice_of version_2) first.now index.now second.now other.now (size list.old))) entries.old }
     ensures rows_after { rows.new ≡ handed (λ b. b.rows) (mapped built_of (join_index (choice_of version_2) first.now index.now second.now other.now (size list.old))) rows.old }
@@ -411,22 +414,22 @@ pub extern "C" fn crest_joined_index(
 
 // Writes the kept form of a list to the front of `out`.
 #[unsafe(no_mangle)]
-pub extern "C" fn crest_keep_index(list: &[u32], out: &mut [u8], written: &mut usize) -> Result
-    ensures value { result ≡ result_of (keep_index list.now (size out.old)) }
+pub extern "C" fn crest_keep_index(list: &[u32], out: &mut [u8], written: &mut usize) -> Status
+    ensures value { result ≡ status_of (keep_index list.now (size out.old)) }
     ensures out_after { out.new ≡ filled (keep_index list.now (size out.old)) out.old }
     ensures written_after { written.new ≡ handed size (keep_index list.now (size out.old)) written.old }
 {
-    hand::count(kept::keep(list, out), written)
+    hand::value(kept::keep(list, out), written)
 }
 
 // Reads the list that a record of kind 1 keeps to the front of `list`.
 #[unsafe(no_mangle)]
-pub extern "C" fn crest_load_kept(bytes: &[u8], list: &mut [u32], entries: &mut usize) -> Result
-    ensures value { result ≡ result_of (load_kept bytes.now (size list.old)) }
+pub extern "C" fn crest_load_kept(bytes: &[u8], list: &mut [u32], entries: &mut usize) -> Status
+    ensures value { result ≡ status_of (load_kept bytes.now (size list.old)) }
     ensures list_after { list.new ≡ filled (load_kept bytes.now (size list.old)) list.old }
     ensures entries_after { entries.new ≡ handed size (load_kept bytes.now (size list.old)) entries.old }
 {
-    hand::count(kept::load(bytes, list), entries)
+    hand::value(kept::load(bytes, list), entries)
 }
 
 // Reads the list that a record of kind 2 keeps to the front of `list`, and its row count.
@@ -436,8 +439,8 @@ pub extern "C" fn crest_load_kept2(
     list: &mut [u32],
     rows: &mut usize,
     entries: &mut usize,
-) -> Result
-    ensures value { result ≡ result_of (mapped loaded_of (load_kept2 bytes.now (size list.old))) }
+) -> Status
+    ensures value { result ≡ status_of (mapped loaded_of (load_kept2 bytes.now (size list.old))) }
     ensures list_after { list.new ≡ filled (mapped list_of (load_kept2 bytes.now (size list.old))) list.old }
     ensures rows_after { rows.new ≡ handed (λ l. l.rows) (mapped loaded_of (load_kept2 bytes.now (size list.old))) rows.old }
     ensures entries_after { entries.new ≡ handed (λ l. l.entries) (mapped loaded_of (load_kept2 bytes.now (size list.old))) entries.old }
@@ -448,7 +451,7 @@ pub extern "C" fn crest_load_kept2(
             *entries = l.entries;
             hand::DONE
         }
-        Err(Refused(why, place)) => hand::refused(why, place),
+        Err(refused) => Status::from(refused),
     }
 }
 
@@ -460,12 +463,12 @@ pub extern "C" fn crest_convert_1_to_2(
     kept: &[u8],
     out: &mut [u8],
     written: &mut usize,
-) -> Result
-    ensures value { result ≡ result_of (to_kind2 (choice_of version_2) file.now kept.now (size out.old)) }
+) -> Status
+    ensures value { result ≡ status_of (to_kind2 (choice_of version_2) file.now kept.now (size out.old)) }
     ensures out_after { out.new ≡ filled (to_kind2 (choice_of version_2) file.now kept.now (size out.old)) out.old }
     ensures written_after { written.new ≡ handed size (to_kind2 (choice_of version_2) file.now kept.now (size out.old)) written.old }
 {
-    hand::count(
+    hand::value(
         kept_check::to_kind_2(hand::choice(version_2), file, kept, out),
         written,
     )
@@ -473,18 +476,18 @@ pub extern "C" fn crest_convert_1_to_2(
 
 // Writes the list that a record of kind 2 keeps as a record of kind 1 to the front of `out`.
 #[unsafe(no_mangle)]
-pub extern "C" fn crest_convert_2_to_1(kept: &[u8], out: &mut [u8], written: &mut usize) -> Result
-    ensures value { result ≡ result_of (to_kind1 kept.now (size out.old)) }
+pub extern "C" fn crest_convert_2_to_1(kept: &[u8], out: &mut [u8], written: &mut usize) -> Status
+    ensures value { result ≡ status_of (to_kind1 kept.now (size out.old)) }
     ensures out_after { out.new ≡ filled (to_kind1 kept.now (size out.old)) out.old }
     ensures written_after { written.new ≡ handed size (to_kind1 kept.now (size out.old)) written.old }
 {
-    hand::count(kept_rows::to_kind_1(kept, out), written)
+    hand::value(kept_rows::to_kind_1(kept, out), written)
 }
 
 // Whether a record of kind 2 keeps the index and the row count of a labelled file.
 #[unsafe(no_mangle)]
-pub extern "C" fn crest_check_kept2(file: &[u8], version_2: bool, kept: &[u8]) -> Result
-    ensures { result ≡ result_of (check_kept2 (choice_of version_2) file.now kept.now) }
+pub extern "C" fn crest_check_kept2(file: &[u8], version_2: bool, kept: &[u8]) -> Status
+    ensures { result ≡ status_of (check_kept2 (choice_of version_2) file.now kept.now) }
 {
     verified(kept_check::check(hand::choice(version_2), file, kept))
 }
@@ -508,19 +511,18 @@ pub extern "C" fn crest_strip_labelled(
     count: usize,
     out: &mut [u8],
     written: &mut usize,
-) -> Result
-    ensures value { result ≡ result_of (strip_into (size out.old) (Kind.Labelled (choice_of version_2)) file.now row rows first count) }
+) -> Status
+    ensures value { result ≡ status_of (strip_into (size out.old) (Kind.Labelled (choice_of version_2)) file.now row rows first count) }
     ensures out_after { out.new ≡ filled (strip_into (size out.old) (Kind.Labelled (choice_of version_2)) file.now row rows first count) out.old }
     ensures written_after { written.new ≡ handed size (strip_into (size out.old) (Kind.Labelled (choice_of version_2)) file.now row rows first count) written.old }
 {
-    hand::count(
+    hand::value(
         plotter::strip(
             Kind::Labelled(hand::choice(version_2)),
             file,
             row,
             rows,
-            first,
-            count,
+            Window { first, count },
             out,
         ),
         written,
@@ -537,13 +539,20 @@ pub extern "C" fn crest_strip_waveform(
     count: usize,
     out: &mut [u8],
     written: &mut usize,
-) -> Result
-    ensures value { result ≡ result_of (strip_into (size out.old) Kind.Waveform file.now row rows first count) }
+) -> Status
+    ensures value { result ≡ status_of (strip_into (size out.old) Kind.Waveform file.now row rows first count) }
     ensures out_after { out.new ≡ filled (strip_into (size out.old) Kind.Waveform file.now row rows first count) out.old }
     ensures written_after { written.new ≡ handed size (strip_into (size out.old) Kind.Waveform file.now row rows first count) written.old }
 {
-    hand::count(
-        plotter::strip(Kind::Waveform, file, row, rows, first, count, out),
+    hand::value(
+        plotter::strip(
+            Kind::Waveform,
+            file,
+            row,
+            rows,
+            Window { first, count },
+            out,
+        ),
         written,
     )
 }
@@ -559,42 +568,38 @@ pub extern "C" fn crest_strip_bursts(
     count: usize,
     out: &mut [u8],
     written: &mut usize,
-) -> Result
-    ensures value { result ≡ result_of (strip_into (size out.old) (Kind.Bursts start) file.now row rows first count) }
+) -> Status
+    ensures value { result ≡ status_of (strip_into (size out.old) (Kind.Bursts start) file.now row rows first count) }
     ensures out_after { out.new ≡ filled (strip_into (size out.old) (Kind.Bursts start) file.now row rows first count) out.old }
     ensures written_after { written.new ≡ handed size (strip_into (size out.old) (Kind.Bursts start) file.now row rows first count) written.old }
 {
-    hand::count(
-        plotter::strip(Kind::Bursts(start), file, row, rows, first, count, out),
+    hand::value(
+        plotter::strip(
+            Kind::Bursts(start),
+            file,
+            row,
+            rows,
+            Window { first, count },
+            out,
+        ),
         written,
     )
 }
 
-// 1 for a dot that is set, 0 for one that is not.
-fn dot_number(set: bool) -> usize
-    ensures { result ≡ bit set }
-{
-    if set {
-        return 1;
-    }
-    0
-}
-
 // A dot in four numbers: its byte's place, the byte, its tone, and whether the dot is set.
-fn dot(answer: Result<Dot, Refused>, numbers: &mut [usize; 4]) -> Result
-    ensures value { result ≡ result_of (told answer) }
+fn dot(answer: Result<Dot, Refused>, numbers: &mut [usize; 4]) -> Status
+    ensures value { result ≡ status_of (told answer) }
     ensures numbers_after { numbers.new ≡ handed dot_numbers (told answer) numbers.old }
 {
     match answer {
-        Ok(found) => {
-            let place = found.place;
-            let byte = answer::wide(found.byte);
-            let tone = answer::wide(found.tone);
-            let set = dot_number(found.set);
-            *numbers = [place, byte, tone, set];
+        Ok(dot) => {
+            let byte = usize::from(dot.byte);
+            let tone = usize::from(dot.tone);
+            let set = usize::from(dot.set);
+            *numbers = [dot.place, byte, tone, set];
             hand::DONE
         }
-        Err(Refused(why, place)) => hand::refused(why, place),
+        Err(refused) => Status::from(refused),
     }
 }
 
@@ -609,8 +614,8 @@ pub extern "C" fn crest_behind_labelled(
     column: usize,
     line: usize,
     behind: &mut [usize; 4],
-) -> Result
-    ensures value { result ≡ result_of (dot_behind (Kind.Labelled (choice_of version_2)) file.now row first count column line) }
+) -> Status
+    ensures value { result ≡ status_of (dot_behind (Kind.Labelled (choice_of version_2)) file.now row first count column line) }
     ensures behind_after { behind.new ≡ handed dot_numbers (dot_behind (Kind.Labelled (choice_of version_2)) file.now row first count column line) behind.old }
 {
     dot(
@@ -618,8 +623,7 @@ pub extern "C" fn crest_behind_labelled(
             Kind::Labelled(hand::choice(version_2)),
             file,
             row,
-            first,
-            count,
+            Window { first, count },
             column,
             line,
         ),
@@ -637,12 +641,19 @@ pub extern "C" fn crest_behind_waveform(
     column: usize,
     line: usize,
     behind: &mut [usize; 4],
-) -> Result
-    ensures value { result ≡ result_of (dot_behind Kind.Waveform file.now row first count column line) }
+) -> Status
+    ensures value { result ≡ status_of (dot_behind Kind.Waveform file.now row first count column line) }
     ensures behind_after { behind.new ≡ handed dot_numbers (dot_behind Kind.Waveform file.now row first count column line) behind.old }
 {
     dot(
-        trace::behind(Kind::Waveform, file, row, first, count, column, line),
+        trace::behind(
+            Kind::Waveform,
+            file,
+            row,
+            Window { first, count },
+            column,
+            line,
+        ),
         behind,
     )
 }
@@ -658,12 +669,19 @@ pub extern "C" fn crest_behind_bursts(
     column: usize,
     line: usize,
     behind: &mut [usize; 4],
-) -> Result
-    ensures value { result ≡ result_of (dot_behind (Kind.Bursts start) file.now row first count column line) }
+) -> Status
+    ensures value { result ≡ status_of (dot_behind (Kind.Bursts start) file.now row first count column line) }
     ensures behind_after { behind.new ≡ handed dot_numbers (dot_behind (Kind.Bursts start) file.now row first count column line) behind.old }
 {
     dot(
-        trace::behind(Kind::Bursts(start), file, row, first, count, column, line),
+        trace::behind(
+            Kind::Bursts(start),
+            file,
+            row,
+            Window { first, count },
+            column,
+            line,
+        ),
         behind,
     )
 }
@@ -678,29 +696,29 @@ pub extern "C" fn crest_sample(sample: u8) -> i64
 
 // The VAX F number in the first 4 bytes.
 #[unsafe(no_mangle)]
-pub extern "C" fn crest_vax_f(bytes: &[u8], number: &mut f64) -> Result
-    ensures value { result ≡ result_of (vax_F bytes.now) }
+pub extern "C" fn crest_vax_f(bytes: &[u8], number: &mut f64) -> Status
+    ensures value { result ≡ status_of (vax_F bytes.now) }
     ensures number_after { number.new ≡ handed (λ x. x) (vax_F bytes.now) number.old }
 {
-    hand::float(vax::vax_f(bytes), number)
+    hand::value(vax::vax_f(bytes), number)
 }
 
 // The VAX D number in the first 8 bytes, to the nearest float.
 #[unsafe(no_mangle)]
-pub extern "C" fn crest_vax_d(bytes: &[u8], number: &mut f64) -> Result
-    ensures value { result ≡ result_of (vax_D bytes.now) }
+pub extern "C" fn crest_vax_d(bytes: &[u8], number: &mut f64) -> Status
+    ensures value { result ≡ status_of (vax_D bytes.now) }
     ensures number_after { number.new ≡ handed (λ x. x) (vax_D bytes.now) number.old }
 {
-    hand::float(vax::vax_d(bytes), number)
+    hand::value(vax::vax_d(bytes), number)
 }
 
 // The VAX D number in the first 8 bytes, its three lowest fraction bits dropped.
 #[unsafe(no_mangle)]
-pub extern "C" fn crest_vax_d_dropped(bytes: &[u8], number: &mut f64) -> Result
-    ensures value { result ≡ result_of (vax_D_dropped bytes.now) }
+pub extern "C" fn crest_vax_d_dropped(bytes: &[u8], number: &mut f64) -> Status
+    ensures value { result ≡ status_of (vax_D_dropped bytes.now) }
     ensures number_after { number.new ≡ handed (λ x. x) (vax_D_dropped bytes.now) number.old }
 {
-    hand::float(vax::vax_d_dropped(bytes), number)
+    hand::value(vax::vax_d_dropped(bytes), number)
 }
 
 // The opening of the per-orbit parameters: the orbit's number, and when its mapping starts and stops.
@@ -710,27 +728,27 @@ pub extern "C" fn crest_opening(
     orbit: &mut usize,
     start: &mut f64,
     stop: &mut f64,
-) -> Result
-    ensures value { result ≡ result_of (per_orbit_opening bytes.now) }
+) -> Status
+    ensures value { result ≡ status_of (per_orbit_opening bytes.now) }
     ensures orbit_after { orbit.new ≡ handed (λ o. o.orbit) (per_orbit_opening bytes.now) orbit.old }
     ensures start_after { start.new ≡ handed (λ o. o.start) (per_orbit_opening bytes.now) start.old }
     ensures stop_after { stop.new ≡ handed (λ o. o.stop) (per_orbit_opening bytes.now) stop.old }
 {
     match orbit::per_orbit_opening(bytes) {
-        Open::Is(o) => {
+        Ok(o) => {
             *orbit = o.orbit;
             *start = o.start;
             *stop = o.stop;
             hand::DONE
         }
-        Open::Refused(why, place) => hand::refused(why, place),
+        Err(refused) => Status::from(refused),
     }
 }
 
 // Where a value stands against its element's limits: 0 below, 1 inside, 2 above.
 #[unsafe(no_mangle)]
-pub extern "C" fn crest_verdict(element: usize, value: i64, verdict: &mut usize) -> Result
-    ensures value { result ≡ result_of (verdict_of Table.Altimeter element value) }
+pub extern "C" fn crest_verdict(element: usize, value: i64, verdict: &mut usize) -> Status
+    ensures value { result ≡ status_of (verdict_of Table.Altimeter element value) }
     ensures verdict_after { verdict.new ≡ handed side_number (verdict_of Table.Altimeter element value) verdict.old }
 {
     hand::side(verdicts::verdict(Table::Altimeter, element, value), verdict)
@@ -748,22 +766,23 @@ pub extern "C" fn crest_burst_field(
     bits: &mut usize,
     place: &mut usize,
     shown: &mut usize,
-) -> Result
-    ensures value { result ≡ result_of (mapped in_numbers (field_of file.now start row position)) }
+) -> Status
+    ensures value { result ≡ status_of (mapped in_numbers (field_of file.now start row position)) }
     ensures kind_after { kind.new ≡ handed (λ f. f.kind) (mapped in_numbers (field_of file.now start row position)) kind.old }
     ensures bits_after { bits.new ≡ handed (λ f. f.bits) (mapped in_numbers (field_of file.now start row position)) bits.old }
     ensures place_after { place.new ≡ handed (λ f. f.place) (mapped in_numbers (field_of file.now start row position)) place.old }
     ensures shown_after { shown.new ≡ handed (λ f. f.shown) (mapped in_numbers (field_of file.now start row position)) shown.old }
 {
-    match hand::in_numbers(burst_fields::field(file, start, row, position)) {
-        Ok(f) => {
+    match burst_fields::field(file, start, row, position) {
+        Ok(value) => {
+            let f = Stored::from(value);
             *kind = f.kind;
             *bits = f.bits;
             *place = f.place;
             *shown = f.shown;
             hand::DONE
         }
-        Err(Refused(why, at)) => hand::refused(why, at),
+        Err(refused) => Status::from(refused),
     }
 }
 
@@ -775,8 +794,8 @@ pub extern "C" fn crest_burst_verdict(
     row: usize,
     position: usize,
     verdict: &mut usize,
-) -> Result
-    ensures value { result ≡ result_of (field_verdict file.now start row position) }
+) -> Status
+    ensures value { result ≡ status_of (field_verdict file.now start row position) }
     ensures verdict_after { verdict.new ≡ handed side_number (field_verdict file.now start row position) verdict.old }
 {
     hand::side(burst_fields::verdict(file, start, row, position), verdict)
@@ -789,11 +808,11 @@ pub extern "C" fn crest_beams(mask: usize, beams: &mut usize) -> usize
     ensures beams_after { beams.new ≡ beams_handed (beams_of mask) beams.old }
 {
     match burst_codes::beams(mask) {
-        Enabled::Inside(n) => {
+        Some(n) => {
             *beams = n;
             1
         }
-        Enabled::Above => 2,
+        None => 2,
     }
 }
 
@@ -803,14 +822,7 @@ pub extern "C" fn crest_mode(number: usize) -> usize
     ensures { result ≡ mode_handed (numbered number) }
 {
     match burst_codes::mode(number) {
-        Compression::Baq8To2 => 0,
-        Compression::Baq8To1 => 1,
-        Compression::NoData => 2,
-        Compression::Top8To2 => 3,
-        Compression::Top8To4 => 4,
-        Compression::Straight8 => 5,
-        Compression::Baq8To4LowRes => 6,
-        Compression::Baq8To4HighRes => 7,
-        Compression::Unnamed => 8,
+        Some(mode) => mode.number(),
+        None => 8,
     }
 }

@@ -22,9 +22,7 @@ fn orbit_number(bytes: &[u8]) -> usize
     requires { 4 ≤ length bytes.now }
     ensures { result ≡ orbit_number bytes.now }
 {
-    let low = answer::wide(bytes[0]) + 256 * answer::wide(bytes[1]);
-    let high = answer::wide(bytes[2]) + 256 * answer::wide(bytes[3]);
-    low + 65536 * high
+    u32::from_le_bytes([bytes[0], bytes[1], bytes[2], bytes[3]]) as usize
 }
 
 // The D number in the eight bytes from `at` on; its refusal's place is `at`.

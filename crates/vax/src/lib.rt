@@ -14,21 +14,12 @@ ghost use Rattle.vax.specs.Private.{patterned, below_sign_F, below_sign_D, BitsF
 
 use answer::{Refusal, Refused};
 
-// A byte as a number to calculate with.
-fn wide(byte: u8) -> u64
-    ensures { (result ≡ byte) × (result < 256) }
-{
-    byte as u64
-}
-
 // The little-endian word of 16 bits at `at`.
 fn word(bytes: &[u8], at: usize) -> u64
     requires { at + 1 < length bytes.now }
     ensures { (result ≡ word_at bytes.now at) × (result < 65536) }
 {
-    let low = wide(bytes[at]);
-    let high = wide(bytes[at + 1]);
-    low + 256 * high
+    u64::from(u16::from_le_bytes([bytes[at], bytes[at + 1]]))
 }
 
 // The number that `bytes` starts with: refusal 9 or zero for exponent 0, else the float whose pattern is

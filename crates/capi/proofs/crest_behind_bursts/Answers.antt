@@ -1,7 +1,0 @@
--- `capi::crest_behind_bursts` meets its contract: the dot that `behind` traced, handed over.
-use Rattle.capi.proofs.crest_behind_bursts.Goals as goal
-
-pub returns : goal.returns
-returns c =
-    let told = rw c.behind.ensures at c.dot.ensures in
-    record { value = told.value; behind_after = told.numbers_after }
