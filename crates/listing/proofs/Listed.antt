@@ -12,7 +12,6 @@ use Rattle.answer.specs.Outcome.{Outcome, answer, refuse}
 use Rattle.answer.specs.Size.{largest_file}
 use Rattle.answer.proofs.Outcomes.{passed}
 use Rattle.label.specs.declared.Versions.TheVariants.{One}
-use Rattle.label.specs.declared.Four.{Four}
 use Rattle.walk.specs.declared.Leaf.{Leaf}
 use Rattle.sfdu.specs.Row.{Row, value_at}
 use Rattle.sfdu.specs.Scan.{scan}
@@ -54,9 +53,9 @@ listed_is_small f rows e =
     record { small = bound; no_larger = omega arith; scanned = scanned; few = omega (arith, bound, few_rows f rows scanned) }
 
 -- at most four digits, five, five and one, and nine other characters
-pub line_is_short : (number place size : ℕ) (d : Four) (spaces : ℕ) → number < 10000 → place < 100000 → size < 100000 → spaces < 10
+pub line_is_short : (number place size : ℕ) (d : List ℕ) (spaces : ℕ) → number < 10000 → place < 100000 → size < 100000 → length d ≡ 4 → spaces < 10
     → length (row_text number place size d spaces) ≤ 24
-line_is_short number place size d spaces h k l m =
+line_is_short number place size d spaces h k l e m =
     let tail : List ℕ = end_text d spaces in
     omega (
       arith,
@@ -67,7 +66,9 @@ line_is_short number place size d spaces h k l m =
       length-append (decimal_text number) (32 ∷ (decimal_text place ++ (32 ∷ (decimal_text size ++ tail)))),
       length-append (decimal_text place) (32 ∷ (decimal_text size ++ tail)),
       length-append (decimal_text size) tail,
+      length-append d (32 ∷ (decimal_text spaces ++ (10 ∷ []))),
       length-append (decimal_text spaces) (10 ∷ []),
+      e,
     )
 
 -- the line of the leaf that was found is the row's
