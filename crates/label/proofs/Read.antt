@@ -63,7 +63,7 @@ length_was_read : (version : Version) (b : List ℕ) (o : Option Length) (l : La
 length_was_read version b (Some m) l e = (m, refl, answer_injective e)
 length_was_read version b None l e = absurd (answer_is_no_refusal (sym e))
 
--- twenty bytes that were read as a label of Some version: the label is of that version
+-- twenty bytes that were read as a label of some version: the label is of that version
 module _ (version : Version) (s : List ℕ) (l : Label) (long : 20 ≤ length s) (e : label_as version (take 20 s) ≡ answer l) where
   read_as : Read s l × (version ≡ l.version)
   read_as =

@@ -1,11 +1,14 @@
 -- The length field's rule in version 1: exactly the fields of spaces and then digits, one digit at least, are read, and as what they say
 -- (`padded_is_read`, `read_is_padded`).
-use Prim.Native.Nat.{ℕ, zero, suc, ◌<◌}
+use Prim.Native.Nat.{ℕ, zero, suc, ◌+◌, ◌<◌, ◌≤◌}
 use native.Mathlib.Omega.{arith}
 use mathlib.Core.Path.{◌≡◌, refl, ◌∙◌, sym, ap, ap₂}
-use mathlib.Core.Bool.{Bool, true, false}
+use mathlib.Core.Bool.{Bool, true, false, not, cond}
 use mathlib.Core.List.{List, [], ◌∷◌, ◌++◌}
-use Rattle.std.specs.Prelude.{Option, None, Some}
+use Rattle.std.specs.Prelude.{Option, None, Some, position, unwrap_or}
+use Rattle.std.specs.List.{position_or_len}
+use Rattle.std.proofs.lemmas.List.Recursion.{is_position_or_len}
+use Rattle.std.proofs.lemmas.List.Sums.{prefix_len-le-length}
 use lib.ListN.{length, drop, replicate, length-replicate}
 use lib.Seq.{drop_at}
 use lib.Dec.{eqb}
@@ -22,6 +25,24 @@ no_space_in_front b bs h = ap (λ (t : Bool). one_more t (spaces_in bs)) (ne_eqb
 some_bytes : (xs : List ℕ) → 0 < length xs → number_in xs ≡ decimal 0 xs
 some_bytes [] h = absurd (omega arith)
 some_bytes (b ∷ bs) h = refl
+
+-- ---- spaces are counted by the place of the first byte that is none
+
+spaces_are_counted : (xs : List ℕ) → spaces_in xs ≡ position_or_len (λ b. not (eqb b 32)) xs
+spaces_are_counted xs = is_position_or_len spaces_in (λ b. not (eqb b 32)) refl (λ b bs. one (eqb b 32) (spaces_in bs)) xs
+  where
+    one : (t : Bool) (n : ℕ) → one_more t n ≡ cond (not t) 0 (1 + n)
+    one true n = omega arith
+    one false n = refl
+
+position_or_end : (p : ℕ → Bool) (xs : List ℕ) → unwrap_or (position p xs) (length xs) ≡ position_or_len p xs
+position_or_end p xs = grind (arith, prefix_len-le-length)
+
+pub spaces_to_first_other : (xs : List ℕ) → unwrap_or (position (λ b. not (eqb b 32)) xs) (length xs) ≡ spaces_in xs
+spaces_to_first_other xs = position_or_end (λ b. not (eqb b 32)) xs ∙ sym (spaces_are_counted xs)
+
+pub spaces_at_most : (xs : List ℕ) → spaces_in xs ≤ length xs
+spaces_at_most xs = omega (arith, spaces_are_counted xs, prefix_len-le-length (λ b. not (not (eqb b 32))) xs)
 
 -- ---- spaces and then digits are read
 

@@ -28,11 +28,11 @@ spells f a b c d = eqb (get_or f 0 0) a && eqb (get_or f 1 0) b && (eqb (get_or 
 abbrev pub is_agency : List ℕ → Bool
 is_agency f = spells f 78 74 80 76 || spells f 67 67 83 68
 
--- an upper-case letter or digit
+-- one of `A` to `Z`, or a digit
 abbrev pub is_code : ℕ → Bool
 is_code b = is_capital b || is_digit b
 
--- each of the four
+-- each an upper-case letter or digit
 abbrev pub is_description : List ℕ → Bool
 is_description f = is_code (get_or f 0 0) && is_code (get_or f 1 0) && (is_code (get_or f 2 0) && is_code (get_or f 3 0))
 

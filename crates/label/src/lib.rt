@@ -5,10 +5,9 @@
 #![tactic(auto)]
 
 ghost use Rattle.answer.specs.Told.{told};
-ghost use Rattle.std.specs.Prelude.{◌≡◌, ◌+◌, ◌≤◌, ◌||◌, ◌==◌, not, length as size, drop, position};
-ghost use Rattle.text.specs.Digits.{is_digit};
+ghost use Rattle.std.specs.Prelude.{◌≡◌, ◌+◌, ◌≤◌, ◌==◌, not, length as size, drop, position};
 ghost use Rattle.label.specs.Version.{version_byte, version_for};
-ghost use Rattle.label.specs.Head.{head_size, is_capital, is_agency, is_form, is_description, head_good, is_head, four_at};
+ghost use Rattle.label.specs.Head.{head_size, is_code, is_agency, is_form, is_description, head_good, is_head, four_at};
 ghost use Rattle.label.specs.Length.{field_size, spaces_in, number_in, after, binary, length_of};
 ghost use Rattle.label.specs.Opened.{is_opened};
 ghost use Rattle.label.specs.Label.{labelled, label_as, read_label};
@@ -68,7 +67,7 @@ pub fn is_opened(class: u8) -> bool
 
 // An upper-case letter or a digit.
 fn is_code(b: u8) -> bool
-    ensures { result ≡ is_capital b || is_digit b }
+    ensures { result ≡ is_code b }
 {
     b.is_ascii_uppercase() | b.is_ascii_digit()
 }
@@ -136,6 +135,7 @@ fn first_other(field: &[u8]) -> Option<usize>
 }
 
 // How many spaces stand at the front of a length field.
+#[tactic(auto, using(crate::proofs::Spaces::spaces_at_most))]
 fn spaces_in(field: &[u8]) -> usize
     ensures value { result ≡ spaces_in field.now }
     ensures within { result ≤ size field.now }
@@ -210,7 +210,9 @@ fn label_with(version: Version, b: &[u8; LABEL], length: usize, spaces: u8) -> L
     }
 }
 
-// The version 1 label that twenty bytes are.
+// The version 1 label that twenty bytes are. (By one function for both versions, told the version, a
+// version 1 label took 19.5 ns in place of 16.3, and 17.2 where each is a call of its own.)
+#[tactic(auto, using(crate::proofs::Reading::good_head))]
 fn digits_label(b: &[u8; LABEL]) -> Result<Label, Refused>
     ensures { told result ≡ label_as Version.One b.now }
 {

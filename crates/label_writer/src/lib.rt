@@ -17,7 +17,8 @@ use label::Version;
 // The largest length that eight digits write.
 const LONGEST: usize = 99999999;
 
-// The last eight decimal digits of a number, as characters.
+// The last eight decimal digits of a number, as characters, the last first. (By `iter_mut().rev()` in
+// place of `7 - i`: tried, and the proof didn't close.)
 fn eight_digits(n: usize) -> [u8; 8]
     ensures { result ≡ digits_of 8 n }
 {

@@ -8,7 +8,7 @@
 #![tactic(auto)]
 
 ghost use Rattle.answer.specs.Told.{told};
-ghost use Rattle.std.specs.Prelude.{◌≡◌};
+ghost use Rattle.std.specs.Prelude.{◌≡◌, ◌≢◌, ◌≤◌, nat_abs, pos};
 ghost use Rattle.std.proofs.Common.{rules};
 ghost use Rattle.fixed_rows.specs.Check.{count_rows};
 ghost use Rattle.fixed_rows.specs.Read.{find_row};
@@ -85,7 +85,9 @@ pub fn row_from(file: &[u8], from: usize) -> Result<Shown, Refused>
 
 // Twice the amplitude that a sample byte stands for, from -255 to 255 and never 0.
 pub fn sample(s: u8) -> i64
-    ensures { result ≡ twice_amplitude s }
+    ensures twice { result ≡ twice_amplitude s }
+    ensures range { nat_abs result ≤ 255 }
+    ensures never_0 { result ≢ pos 0 }
 {
     2 * i64::from(s) - 255
 }
