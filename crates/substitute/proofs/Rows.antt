@@ -10,11 +10,9 @@ use lib.ListN.{length, drop, length-drop}
 use lib.Seq.{length-take-le}
 use lib.Dec.{ltb}
 use borrow.Author.Tests.{lt-ltb, le-ltb}
-use Rattle.answer.specs.Told.{told}
 use Rattle.answer.specs.Outcome.{Outcome, answer, refuse, and_then, mapped}
 use Rattle.answer.specs.Nth.{nth}
 use Rattle.answer.specs.declared.Shown.{Shown}
-use Rattle.answer.specs.declared.Show.{Show}
 use Rattle.answer.proofs.Outcomes.{first_answered}
 use Rattle.answer.proofs.Nths.{nth_is_there, nth_is_not, nth_of_map}
 use Rattle.reader.specs.Rows.{row_parts, check_file, row_of}
@@ -50,8 +48,8 @@ module _ {A : Type 0} where
 
 module _ (kind : Kind) (f : List ℕ) (k : ℕ) where
   -- what reading answers or refuses is the row as demand 2 gives it
-  pub found_is_row : {r s : Show} → told r ≡ find_row kind f k → r ≡ s → row_of kind f k ≡ told s
-  found_is_row found is = sym (found ∙ reads_the_rows kind f k) ∙ ap told is
+  pub found_is_row : {o : Outcome Shown} → o ≡ find_row kind f k → row_of kind f k ≡ o
+  found_is_row found = sym (found ∙ reads_the_rows kind f k)
 
   pub has_where_read : has (check_file kind f) k ≡ answers (row_of kind f k)
   unfolding row_of

@@ -1,7 +1,5 @@
 -- What is said of a row that was chosen: which of the two files "it came from" (document 02, item 6), and the row's record in that file.
 use Rattle.std.specs.Prelude.{ℕ, List}
-use Rattle.answer.specs.Outcome.{Outcome, answer, refuse}
-use Rattle.answer.specs.Refusal.{number_of}
 use Rattle.answer.specs.declared.Shown.{Shown}
 use Rattle.substitute.specs.declared.Source.{Source}
 use Rattle.substitute.specs.declared.Source.TheVariants.{Original, Substitute}
@@ -20,4 +18,3 @@ file_named Substitute original substitute = substitute
 -- a row, and the file that it came from
 abbrev pub from : Source → Shown → Chosen
 from source row = record { source = source; row = row }
-

@@ -16,7 +16,7 @@ use label::Versions;
 use reader::Kind;
 
 // Which of the two files.
-#[derive(Clone, Copy)]
+#[derive(Clone, Copy, Debug, PartialEq, Eq)]
 pub enum Source {
     Original,
     Substitute,
@@ -33,18 +33,21 @@ pub struct Chosen {
 fn read_original(versions: Versions, original: &[u8], k: usize) -> Result<Chosen, Refused>
     ensures { told result ≡ mapped (from Source.Original) (row_of (Kind.Labelled versions) original.now k) }
 {
-    match reader::find_labelled(versions, original, k) {
-        Ok(row) => Ok(Chosen {
-            source: Source::Original,
-            row,
-        }),
-        Err(Refused(why, place)) => Err(Refused(why, place)),
-    }
+    let row = reader::find_labelled(versions, original, k)?;
+    Ok(Chosen {
+        source: Source::Original,
+        row,
+    })
 }
 
 // Row `k`, whole: of the substitute where that is accepted and has the row, whatever the original is;
 // else of the original. The original's refusal where neither serves; the substitute's is never told.
-pub fn read_row(versions: Versions, original: &[u8], substitute: &[u8], k: usize) -> Result<Chosen, Refused>
+pub fn read_row(
+    versions: Versions,
+    original: &[u8],
+    substitute: &[u8],
+    k: usize,
+) -> Result<Chosen, Refused>
     ensures { told result ≡ read_either versions original.now substitute.now k }
 {
     match reader::find_labelled(versions, substitute, k) {
@@ -56,7 +59,7 @@ pub fn read_row(versions: Versions, original: &[u8], substitute: &[u8], k: usize
     }
 }
 
-// The bytes of a row that was told, lent again from the file that it came from. Of a row that no call
+// The bytes of a row that was chosen, lent again from the file that it came from. Of a row that no call
 // chose for these files, what of it lies in the file that it names.
 pub fn bytes_of<'a>(original: &'a [u8], substitute: &'a [u8], found: Chosen) -> &'a [u8]
     ensures { result.now ≡ bytes_at (file_named found.source original.now substitute.now) found.row.part.place found.row.part.count }
