@@ -11,8 +11,8 @@ put_rows-requires-clause-room c =
 
 pub returns-in-Ok-clause-writes : goal.returns-in-Ok-clause-writes
 returns-in-Ok-clause-writes c =
-    (rows_follow c.args.file.now c.check_listed-checked.ensures (c.text.ensures.text ∙ c.head_line.ensures) c.put-head.ensures c.put_rows.ensures).0
+    rows_follow c.args.file.now c.check_listed-checked.ensures (c.text.ensures.text ∙ c.head_line.ensures) c.put-head.ensures c.put_rows.ensures
 
 pub returns-in-Err-clause-writes : goal.returns-in-Err-clause-writes
 returns-in-Err-clause-writes c =
-    (nothing_follows c.args.file.now c.check_listed-checked.ensures (c.text.ensures.text ∙ c.head_line.ensures) c.put-head.ensures _ _ (ap told c.in-Err.is)).0
+    nothing_follows c.args.file.now c.check_listed-checked.ensures (c.text.ensures.text ∙ c.head_line.ensures) c.put-head.ensures _ _ (ap told c.in-Err.is)
