@@ -154,7 +154,6 @@ fn put_rows(file: &[u8], rows: usize, out: &mut [u8], at: usize) -> usize
 
 // The listing of a file, written to the front of `out`; answers how many bytes it has. `out` holds
 // the longest there is: a file that is listed has at most 3,276 rows, and a row's line 24 bytes.
-
 pub fn write_listing(file: &[u8], out: &mut [u8; 81920]) -> usize
     ensures writes { Writes (answer (listing_of file.now)) out.old (answer result) out.new }
     ensures front { Front result out.new }
