@@ -16,11 +16,7 @@ fn print(rt: &HostRuntime, file: &[u8]) -> io::Result<()> {
 // is told on standard error, with status 1.
 fn main(rt: HostRuntime) -> io::Result<()> {
     let mut memory = [0u8; 65537];
-    let mut standard_input = rt.stdin();
-    let input = input::read_up_to(&mut standard_input, &mut memory);
-    if input.failed {
-        return Err(io::Error::other("standard input could not be read"));
-    }
-    let size = input.size;
+    let read = input::read_up_to(&mut rt.stdin(), &mut memory);
+    let size = read.map_err(|_| io::Error::other("standard input could not be read"))?;
     print(&rt, &memory[..size])
 }

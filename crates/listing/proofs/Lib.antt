@@ -1,5 +1,4 @@
 pub mod Putting
-pub mod Lines
 pub mod FewRows
 pub mod RowAfterRow
 pub mod Listed

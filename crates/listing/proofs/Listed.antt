@@ -7,16 +7,15 @@ use mathlib.Core.Path.{◌≡◌, ◌∙◌, sym, ap}
 use mathlib.Core.List.{List, [], ◌∷◌, ◌++◌, append_assoc}
 use lib.ListN.{length, length-append}
 use lib.Dec.{leb}
-use borrow.Author.Tests.{le-leb, lt-leb, leb-true}
-use Rattle.answer.specs.Outcome.{Outcome, answer, refuse}
+use borrow.Author.Tests.{leb-true}
+use Rattle.answer.specs.Outcome.{Outcome, answer}
 use Rattle.answer.specs.Size.{largest_file}
 use Rattle.answer.proofs.Outcomes.{passed}
 use Rattle.label.specs.declared.Versions.TheVariants.{One}
-use Rattle.label.specs.declared.Four.{Four}
 use Rattle.walk.specs.declared.Leaf.{Leaf}
 use Rattle.sfdu.specs.Row.{Row, value_at}
 use Rattle.sfdu.specs.Scan.{scan}
-use Rattle.sfdu.specs.Check.{rows_of_file, counting, check_labelled}
+use Rattle.sfdu.specs.Check.{rows_of_file}
 use Rattle.sfdu.proofs.Checking.{accepted_says}
 use Rattle.text.specs.Decimal.{decimal_text}
 use Rattle.text.proofs.Unpadded.{few_bytes}
@@ -25,18 +24,6 @@ use Rattle.listing.specs.Listing.{rows_listed, line_of, lines_from}
 use Rattle.listing.specs.Private.{leaf_text}
 use Rattle.listing.proofs.FewRows.{few_rows}
 use Rattle.listing.proofs.RowAfterRow.{FindsRow}
-
-pub too_big_to_list : (f : List ℕ) → 65536 < length f → rows_listed f ≡ refuse 14 0
-unfolding rows_listed
-too_big_to_list f h = rw (lt-leb (length f) 65536 h)
-
-pub small_enough : (f : List ℕ) → length f ≤ 65536 → rows_listed f ≡ rows_of_file One f
-unfolding rows_listed
-small_enough f h = rw (le-leb (length f) 65536 h)
-
-pub check_is_the_count : (f : List ℕ) → length f ≤ 65536 → check_labelled One f ≡ counting (rows_listed f)
-unfolding check_labelled
-check_is_the_count f h = ap counting (sym (small_enough f h))
 
 -- a file that is listed
 pub record Small (f : List ℕ) (rows : List Row) : Type 0 where
@@ -54,9 +41,9 @@ listed_is_small f rows e =
     record { small = bound; no_larger = omega arith; scanned = scanned; few = omega (arith, bound, few_rows f rows scanned) }
 
 -- at most four digits, five, five and one, and nine other characters
-pub line_is_short : (number place size : ℕ) (d : Four) (spaces : ℕ) → number < 10000 → place < 100000 → size < 100000 → spaces < 10
+pub line_is_short : (number place size : ℕ) (d : List ℕ) (spaces : ℕ) → number < 10000 → place < 100000 → size < 100000 → length d ≡ 4 → spaces < 10
     → length (row_text number place size d spaces) ≤ 24
-line_is_short number place size d spaces h k l m =
+line_is_short number place size d spaces h k l e m =
     let tail : List ℕ = end_text d spaces in
     omega (
       arith,
@@ -67,7 +54,9 @@ line_is_short number place size d spaces h k l m =
       length-append (decimal_text number) (32 ∷ (decimal_text place ++ (32 ∷ (decimal_text size ++ tail)))),
       length-append (decimal_text place) (32 ∷ (decimal_text size ++ tail)),
       length-append (decimal_text size) tail,
+      length-append d (32 ∷ (decimal_text spaces ++ (10 ∷ []))),
       length-append (decimal_text spaces) (10 ∷ []),
+      e,
     )
 
 -- the line of the leaf that was found is the row's

@@ -4,7 +4,7 @@ use Prim.Native.Nat.{ℕ, ◌+◌, ◌*◌, ◌≤◌, ◌<◌}
 use native.Mathlib.Omega.{arith}
 use mathlib.Core.Path.{◌≡◌, refl, ◌∙◌, sym, ap, ap₂, subst}
 use mathlib.Core.List.{List, [], ◌∷◌, ◌++◌, append_assoc, append-nil}
-use lib.ListN.{length, take, length-append, take-append-drop}
+use lib.ListN.{length, length-append, take-append-drop}
 use Rattle.answer.specs.Outcome.{answer, refuse}
 use Rattle.answer.proofs.Outcomes.{mapped_answer, answer_injective, answer_is_no_refusal}
 use Rattle.label.specs.declared.Versions.TheVariants.{One}
@@ -14,9 +14,8 @@ use Rattle.walk.specs.declared.Leaf.{Leaf}
 use Rattle.sfdu.specs.Row.{Row, value_at}
 use Rattle.sfdu.specs.Check.{counting}
 use Rattle.walk.specs.Walk.{walk_from}
-use Rattle.listing.specs.declared.Line.{Line}
 use Rattle.listing.specs.Listing.{rows_listed, line_of, lines_from, row_lines}
-use Rattle.listing.specs.Private.{Holds, Room, leaf_text, Puts}
+use Rattle.listing.specs.Private.{leaf_text, Puts}
 use Rattle.listing.proofs.Putting.{puts_on}
 use Rattle.listing.proofs.RowAfterRow.{FindsRow, Finds, finds_rows}
 use Rattle.listing.proofs.Listed.{Small, listed_is_small, line_is_short, same_line, lines_append}
@@ -74,17 +73,14 @@ module _ {f old : List ℕ} {rows at : ℕ} {out : List ℕ} {end from number : 
             let found : Finds f (walk_from One f from 0) (r ∷ rs) = subst (Finds f (walk_from One f from 0)) e u.onward in
             record { row = r; others = rs; is = e; finds = found.0; then = found.1 }
 
-    pub never_refused : (n p : ℕ) → walk_from One f from 0 ≡ refuse n p → ⊥
-    never_refused n p e = answer_is_no_refusal (sym next_row.finds.found ∙ e)
+    pub never_refused : (n p : ℕ) → refuse n p ≡ walk_from One f from 0 → ⊥
+    never_refused n p e = answer_is_no_refusal (sym next_row.finds.found ∙ sym e)
 
 -- a turn that came to a leaf
-pub record Comes {f old : List ℕ} {rows at : ℕ} {out : List ℕ} {end from number : ℕ} (u : Underway f old rows at out end from number) (leaf : Leaf) : Type 0 where
-  pub more : number < rows
-  pub walked : walk_from One f from 0 ≡ answer leaf
-
-module _ {f old : List ℕ} {rows at : ℕ} {out : List ℕ} {end from number : ℕ} {u : Underway f old rows at out end from number} {leaf : Leaf} (m : Comes u leaf) where
-  next : Next u m.more
-  next = next_row u m.more
+module _ {f old : List ℕ} {rows at : ℕ} {out : List ℕ} {end from number : ℕ} (u : Underway f old rows at out end from number) (more : number < rows) {leaf : Leaf}
+    (walked : answer leaf ≡ walk_from One f from 0) where
+  next : Next u more
+  next = next_row u more
 
   rows_are_few : Small f (u.listed ++ u.rest)
   rows_are_few = listed_is_small f (u.listed ++ u.rest) u.accepted
@@ -94,7 +90,7 @@ module _ {f old : List ℕ} {rows at : ℕ} {out : List ℕ} {end from number : 
   finds = next.finds
 
   same_leaf : finds.leaf ≡ leaf
-  same_leaf = answer_injective (sym finds.found ∙ m.walked)
+  same_leaf = answer_injective (sym finds.found ∙ sym walked)
 
   line_is : leaf_text number leaf ≡ line_of f number next.row
   line_is = ap (leaf_text number) (sym same_leaf) ∙ same_line f (walk_from One f from 0) next.row number finds
@@ -113,19 +109,12 @@ module _ {f old : List ℕ} {rows at : ℕ} {out : List ℕ} {end from number : 
         arith,
         ap length line_is,
         line_is_short number (value_at next.row) next.row.size (four_at f (next.row.label + 8)) (spaces_at f next.row.label)
-            (omega (arith, m.more, u.total, rows_are_few.few)) (omega (arith, finds.inside, rows_are_few.small)) (omega (arith, finds.inside, rows_are_few.small))
+            (omega (arith, more, u.total, rows_are_few.few)) (omega (arith, finds.inside, rows_are_few.small)) (omega (arith, finds.inside, rows_are_few.small)) refl
             (omega (arith, finds.few, finds.spaces)),
       )
 
-  module _ {line : Line} (holds : Holds line (leaf_text number leaf)) where
-    pub line_is_whole : Room line 0
-    line_is_whole = record { room = holds.room; fits = omega (arith, holds.size, line_has_24) }
-
-    pub line_has_room : at ≤ 26 → length old ≡ 81920 → end + line.size ≤ length out
-    line_has_room h k = omega (arith, h, k, u.as_long, holds.size, u.short, line_has_24, m.more, u.total, rows_are_few.few)
-
-    pub text_was_put : {last : ℕ} {new : List ℕ} → Puts end (take line.size line.bytes) out last new → Puts end (leaf_text number leaf) out last new
-    text_was_put {last} {new} p = subst (λ (t : List ℕ). Puts end t out last new) holds.text p
+  pub line_has_room : at ≤ 26 → length old ≡ 81920 → end + length (leaf_text number leaf) ≤ length out
+  line_has_room h k = omega (arith, h, k, u.as_long, u.short, line_has_24, more, u.total, rows_are_few.few)
 
   -- its line is put, and the walk goes on after it
   pub turns : {last : ℕ} {new : List ℕ} → at ≤ length old → length new ≡ length out → Puts end (leaf_text number leaf) out last new

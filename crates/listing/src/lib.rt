@@ -5,110 +5,124 @@
 #![tactic(auto)]
 
 ghost use Rattle.answer.specs.Told.{told};
-ghost use Rattle.std.specs.Prelude.{◌≡◌, ◌+◌, ◌≤◌, ◌<◌, ◌^◌, [], length, take};
+ghost use Rattle.std.specs.Prelude.{ℕ, ◌≡◌, ◌+◌, ◌≤◌, ◌<◌, ◌^◌, List, [], ◌++◌, length, take};
 ghost use Rattle.answer.specs.Outcome.{answer};
 ghost use Rattle.answer.specs.Filled.{Writes};
 ghost use Rattle.sfdu.specs.Check.{counting};
 ghost use Rattle.text.specs.Decimal.{decimal_text};
 ghost use Rattle.label.specs.Head.{label_size};
-ghost use Rattle.listing.specs.Line.{head_text, end_text};
+ghost use Rattle.listing.specs.Line.{head_text};
 ghost use Rattle.listing.specs.Listing.{rows_listed, row_lines, listing_of, Front};
-ghost use Rattle.listing.specs.Private.{Holds, Room, Grown, leaf_text, Puts};
+ghost use Rattle.listing.specs.Private.{leaf_text, Puts};
 
 use answer::{Refusal, Refused};
-use label::{Four, Versions};
+use label::Versions;
+use std::marker::Model;
 use walk::Leaf;
 
-// A line of text: the first `size` bytes. What stands behind them is left free.
-#[derive(Clone, Copy)]
+// Puts a text at place `at` of `out` and answers where it ends.
+fn put(text: &[u8], out: &mut [u8], at: usize) -> usize
+    requires { at + length text.now ≤ length out.old }
+    ensures { Puts at text.now out.old result out.new }
+{
+    let end = at + text.len();
+    out[at..end].copy_from_slice(text);
+    end
+}
+
+// A line of text, which contracts see as the list of its bytes: the first `size`.
+#[derive(Drop)]
 struct Line {
     bytes: [u8; 96],
     size: usize,
 }
 
-fn nothing() -> Line
-    ensures { Holds result [] }
-{
-    let bytes = [0u8; 96];
-    Line {
-        bytes: bytes,
-        size: 0,
-    }
+impl Model for Line {
+    ghost Value = { List ℕ };
+
+    ghost view = { λ line. take line.size line.bytes };
+
+    ghost invariant = { λ line. line.size ≤ 96 };
 }
 
-// The line with a piece of text behind it.
-fn with(line: Line, piece: &[u8]) -> Line
-    requires { Room line (length piece.now) }
-    ensures { Grown line piece.now result }
-{
-    let mut bytes = line.bytes;
-    let at = line.size;
-    let size = at + piece.len();
-    bytes[at..size].copy_from_slice(piece);
-    Line {
-        bytes: bytes,
-        size: size,
+impl Line {
+    fn new() -> Self
+        ensures { result ≡ [] }
+    {
+        Line {
+            bytes: [0; 96],
+            size: 0,
+        }
     }
-}
 
-// The line with a number behind it.
-fn with_number(line: Line, n: usize) -> Line
-    requires { Room line 20 }
-    ensures grown { Grown line (decimal_text n) result }
-    ensures size_bound { result.size ≤ line.size + 20 }
-{
-    let numeral = text::decimal(n);
-    let digits = numeral.digits;
-    let first = numeral.first;
-    with(line, &digits[first..])
+    fn text(&self) -> &[u8]
+        ensures text { result.now ≡ self.now }
+        ensures short { length result.now ≤ 96 }
+    {
+        &self.bytes[..self.size]
+    }
+
+    fn push(&mut self, piece: &[u8])
+        requires { length self.old + length piece.now ≤ 96 }
+        ensures { self.new ≡ self.old ++ piece.now }
+    {
+        self.size = put(piece, &mut self.bytes, self.size);
+    }
+
+    fn push_number(&mut self, n: usize)
+        requires { length self.old + 20 ≤ 96 }
+        ensures text { self.new ≡ self.old ++ decimal_text n }
+        ensures short { length self.new ≤ length self.old + 20 }
+    {
+        self.push(text::decimal(n).digits());
+    }
 }
 
 // The first line: how many rows were found, or the refusal.
 fn head_line(checked: Result<usize, Refused>) -> Line
-    ensures { Holds result (head_text (told checked)) }
+    ensures { result ≡ head_text (told checked) }
 {
+    let mut line = Line::new();
     match checked {
-        Ok(n) => {
-            let rows = with_number(with(nothing(), b"rows "), n);
-            with(rows, b"\n")
+        Ok(rows) => {
+            line.push(b"rows ");
+            line.push_number(rows);
         }
         Err(Refused(why, place)) => {
-            let number = answer::number(why);
-            let refused = with_number(with(nothing(), b"refused "), number);
-            let placed = with_number(with(refused, b" "), place);
-            with(placed, b"\n")
+            line.push(b"refused ");
+            line.push_number(why.number());
+            line.push(b" ");
+            line.push_number(place);
         }
     }
-}
-
-// The line with a description and so many spaces told behind it, and ended.
-fn with_end(line: Line, description: Four, spaces: u8) -> Line
-    requires { Room line 27 }
-    ensures { Grown line (end_text description spaces) result }
-{
-    let d = description;
-    let described = with(line, &[b' ', d.a, d.b, d.c, d.d, b' ']);
-    let told = with_number(described, answer::wide(spaces));
-    with(told, b"\n")
+    line.push(b"\n");
+    line
 }
 
 // A row's line: its number, the place of its value, its length, its description and its spaces.
 fn row_line(number: usize, leaf: Leaf) -> Line
     requires { leaf.place + label_size < 2 ^ 64 }
-    ensures { Holds result (leaf_text number leaf) }
+    ensures { result ≡ leaf_text number leaf }
 {
-    let l = leaf.label;
-    let place = leaf.place + label::LABEL;
-    let numbered = with_number(nothing(), number);
-    let placed = with_number(with(numbered, b" "), place);
-    let sized = with_number(with(placed, b" "), l.length);
-    with_end(sized, l.description, l.spaces)
+    let mut line = Line::new();
+    line.push_number(number);
+    line.push(b" ");
+    line.push_number(leaf.place + label::LABEL);
+    line.push(b" ");
+    line.push_number(leaf.label.length);
+    line.push(b" ");
+    line.push(&leaf.label.description);
+    line.push(b" ");
+    line.push_number(usize::from(leaf.label.spaces));
+    line.push(b"\n");
+    line
 }
 
 // The largest file that is listed, in bytes.
 const LARGEST_LISTED: usize = 65536;
 
 // The check of a file that is listed.
+#[tactic(auto, unfolding(crate::specs::Listing::rows_listed, sfdu::specs::Check::check_labelled))]
 fn check_listed(file: &[u8]) -> Result<usize, Refused>
     ensures { told result ≡ counting (rows_listed file.now) }
 {
@@ -118,41 +132,22 @@ fn check_listed(file: &[u8]) -> Result<usize, Refused>
     labelled::check(Versions::One, file)
 }
 
-// Puts a line at place `at` of `out` and answers where it ends.
-fn put(line: Line, out: &mut [u8], at: usize) -> usize
-    requires room { Room line 0 }
-    requires size_in_bounds { at + line.size ≤ length out.old }
-    ensures { Puts at (take line.size line.bytes) out.old result out.new }
-{
-    let bytes = line.bytes;
-    let size = line.size;
-    let end = at + size;
-    out[at..end].copy_from_slice(&bytes[..size]);
-    end
-}
-
 // Puts the lines of an accepted file's rows at place `at` of `out`, walking on from each row to
 // the next, and answers where they end.
+#[tactic(auto, using(crate::proofs::Underway::sets_out, crate::proofs::Underway::arrives, crate::proofs::Underway::turns))]
 fn put_rows(file: &[u8], rows: usize, out: &mut [u8], at: usize) -> usize
-    requires file_value { counting (rows_listed file.now) ≡ answer rows }
-    requires at_bound { (at ≤ 26) × (length out.old ≡ 81920) }
+    requires all { counting (rows_listed file.now) ≡ answer rows }
+    requires room { (at ≤ 26) × (length out.old ≡ 81920) }
     ensures { Puts at (row_lines file.now (rows_listed file.now)) out.old result out.new }
 {
     let mut end = at;
-    let mut from: usize = 0;
-    let mut number: usize = 0;
-    while number < rows {
-        match walk::walk_from(Versions::One, file, from, 0) {
-            Ok(leaf) => {
-                end = put(row_line(number, leaf), out, end);
-                let l = leaf.label;
-                from = leaf.place + label::LABEL + l.length;
-                number += 1;
-            }
-            Err(_) => {
-                return end;
-            }
-        }
+    let mut from = 0;
+    for number in 0..rows {
+        let Ok(leaf) = walk::walk_from(Versions::One, file, from, 0) else {
+            return end;
+        };
+        end = put(row_line(number, leaf).text(), out, end);
+        from = leaf.place + label::LABEL + leaf.label.length;
     }
     end
 }
@@ -164,7 +159,7 @@ pub fn write_listing(file: &[u8], out: &mut [u8; 81920]) -> usize
     ensures front { Front result out.new }
 {
     let checked = check_listed(file);
-    let head = put(head_line(checked), out, 0);
+    let head = put(head_line(checked).text(), out, 0);
     match checked {
         Ok(rows) => put_rows(file, rows, out, head),
         Err(_) => head,
