@@ -68,10 +68,12 @@ pub extern "C" fn crest_read_label(
 {
     match label::read_label(hand::choice(version_2), bytes) {
         Ok(l) => {
-            *agency = l.agency;
+            let by = l.agency;
+            let about = l.description;
+            *agency = by;
             *version = l.version.number();
             *class = l.class;
-            *description = l.description;
+            *description = about;
             *length = l.length;
             *spaces = l.spaces;
             hand::DONE
@@ -82,6 +84,7 @@ pub extern "C" fn crest_read_label(
 
 // Writes the label of this version with bytes 0-11 as lent and this length to the first 20 bytes of
 // `out`. With a version that is neither 1 nor 2 no byte 4 agrees.
+#[tactic(auto, unfolding(hand::specs::Numbers::write_numbered))]
 #[unsafe(no_mangle)]
 pub extern "C" fn crest_write_label(
     version: u8,
@@ -255,6 +258,7 @@ pub extern "C" fn crest_jump_bursts(
 }
 
 // The first row of a labelled file from a place on.
+#[tactic(auto, unfolding(reader::specs::Read::row_from))]
 #[unsafe(no_mangle)]
 pub extern "C" fn crest_row_from_labelled(
     file: &[u8],
@@ -272,6 +276,7 @@ pub extern "C" fn crest_row_from_labelled(
 }
 
 // The first row of a waveform file from a place on.
+#[tactic(auto, unfolding(reader::specs::Read::row_from))]
 #[unsafe(no_mangle)]
 pub extern "C" fn crest_row_from_waveform(
     file: &[u8],
@@ -285,6 +290,7 @@ pub extern "C" fn crest_row_from_waveform(
 }
 
 // The record of a burst file that begins at a place.
+#[tactic(auto, unfolding(reader::specs::Read::row_from))]
 #[unsafe(no_mangle)]
 pub extern "C" fn crest_row_from_bursts(
     file: &[u8],

@@ -14,7 +14,8 @@ use Rattle.reader.specs.Read.{read_row, jump_row}
 use Rattle.reader.specs.declared.Kind.TheVariants.{Labelled, Waveform}
 use Rattle.vax.specs.Numbers.{vax_F}
 use Rattle.limits.specs.declared.Table.TheVariants.{Altimeter}
-use Rattle.verdicts.specs.Verdict.{below, inside, above, verdict_of}
+use Rattle.verdicts.specs.Verdict.{verdict_of}
+use Rattle.verdicts.specs.declared.Side.TheVariants.{Below, Inside, Above}
 use Rattle.listing.specs.Listing.{listing_of}
 use Rattle.cases.specs.Files.{sixty_three, printed, shorter_outside, longer_inside}
 
@@ -68,7 +69,7 @@ pub record Table : Type 0 where
   pub vax_zero : vax_F (0x7F ∷ 0 ∷ 0xFF ∷ 0xFF ∷ []) ≡ answer (fin false 0 (pos 0))
   pub vax_reserved : vax_F (0 ∷ 0x80 ∷ 0 ∷ 0 ∷ []) ≡ refuse 9 0
   -- 12: element 141 at −2,001, −2,000, 2,000, 2,001: below, inside, inside, above
-  pub under_141 : verdict_of Altimeter 141 (neg_ℤ (pos 2001)) ≡ answer below
-  pub least_141 : verdict_of Altimeter 141 (neg_ℤ (pos 2000)) ≡ answer inside
-  pub most_141 : verdict_of Altimeter 141 (pos 2000) ≡ answer inside
-  pub over_141 : verdict_of Altimeter 141 (pos 2001) ≡ answer above
+  pub under_141 : verdict_of Altimeter 141 (neg_ℤ (pos 2001)) ≡ answer Below
+  pub least_141 : verdict_of Altimeter 141 (neg_ℤ (pos 2000)) ≡ answer Inside
+  pub most_141 : verdict_of Altimeter 141 (pos 2000) ≡ answer Inside
+  pub over_141 : verdict_of Altimeter 141 (pos 2001) ≡ answer Above
