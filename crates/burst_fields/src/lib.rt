@@ -1,7 +1,7 @@
 // The fields of Cassini short bursts: a field of a row, by its position in section 8.1 of source
 // document 000, read by its storage type, and the verdict on it by its limits. Renders document 02,
 // item 1. Where rows and fields stand is left to `bursts` and `burst_layout`, which limits there are
-// and how they are told to `limits` and `verdicts`.
+// and how they are judged to `limits` and `verdicts`.
 #![tactic(auto)]
 
 ghost use Rattle.answer.specs.Told.{told};

@@ -1,4 +1,4 @@
-// The index of a labelled file, told, checked, and the jump to a row by it. Renders document 01,
+// The index of a labelled file, built, checked, and the jump to a row by it. Renders document 01,
 // "The index and the jump"; the kept form of an index is a crate of its own, and windows are left to
 // the reader.
 #![tactic(auto)]

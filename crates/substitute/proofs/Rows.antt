@@ -55,7 +55,7 @@ module _ (kind : Kind) (f : List ℕ) (k : ℕ) where
   unfolding row_of
   has_where_read = ap (λ (o : Outcome ℕ). has o k) (demand_2 kind f).counts ∙ has_where_answered (row_parts kind f) k
 
-  -- the bytes of a row that is told are those of the row in the division
+  -- the bytes of a row that is shown are those of the row in the division
   bytes_of_the_row : (row : Shown) → row_of kind f k ≡ answer row → (d : Division kind) → Divides kind f d → nth (bytes_in kind d) k ≡ answer (shown_bytes f row)
   unfolding row_of
   bytes_of_the_row row e d divides =
