@@ -44,10 +44,6 @@ module _ (w ys old front back : List ℕ) (n : ℕ) (h : length w ≡ n) (room :
       ∙ ap₂ ◌++◌ (take-length ys)
       (ap (drop (length ys)) (all_that_is_left front n ∙ rest_is) ∙ drop-drop (length ys) n old)
 
-  length_front_is : length front ≡ length old
-  length_front_is =
-      ap length front_is ∙ length-append w (drop n old) ∙ ap (λ (k : ℕ). length w + k) (length-drop n old) ∙ omega arith
-
   pub two_pieces : put_mid n (length front - n) front back ≡ (w ++ ys) ++ drop (length (w ++ ys)) old
   two_pieces =
       ap₂ (λ (a b : List ℕ). a ++ b) (ap (take n) front_is ∙ take_at w (drop n old) n h)

@@ -4,7 +4,7 @@
 // `burst_fields`, windows of it to the reader.
 //
 // The caller vouches for the kind of the file and for the first place: nothing here looks into a
-// record.
+// record. (The two stay parameters of the public calls, as the C interface lends them.)
 #![tactic(auto)]
 
 ghost use Rattle.answer.specs.Told.{told};

@@ -1,7 +1,7 @@
 // A kept index with its file at hand: a record of kind 1 turned into one of kind 2, with the file's row
 // count, and the check of a record of kind 2. Renders document 02, item 9. That each way and back gives
 // the same bytes is stated in `specs/SameBytes.antt`; the way back, and reading, need no file and are left
-// to `kept_rows`.
+// to `kept_rows`. (The versions and a file's bytes stay two parameters, as in `row_index`.)
 #![tactic(auto)]
 
 ghost use Rattle.answer.specs.Told.{told};

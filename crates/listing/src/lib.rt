@@ -30,7 +30,8 @@ fn put(text: &[u8], out: &mut [u8], at: usize) -> usize
     end
 }
 
-// A line of text, which contracts see as the list of its bytes: the first `size`.
+// A line of text, which contracts see as the list of its bytes: the first `size`. (Fixed memory: the
+// project has no heap, and so no `String`.)
 #[derive(Drop)]
 struct Line {
     bytes: [u8; 96],

@@ -1,6 +1,6 @@
 // Little-endian numbers: the number that bytes are, the lowest first, and the four bytes of a number
 // (document 01, "Kept form"; document 02, items 1 and 9). What stands where is left to the crates
-// above.
+// above. (Bytes and a place in them stay two parameters: the callers have many places in the same bytes.)
 #![tactic(auto)]
 
 ghost use Rattle.std.specs.Prelude.{◌≡◌, ◌+◌, ◌<◌, ◌≤◌, [], ◌∷◌, length};

@@ -16,7 +16,9 @@ ghost use Rattle.reader.specs.Read.{find_row, read_row, jump_row, row_from, begi
 use answer::{Part, Refusal, Refused, Shown, Window};
 use label::Versions;
 
-// The kinds of file.
+// The kinds of file. (They are few and closed, and the C interface and the definitions go by them: a
+// `match` is plainer than a trait or closures. A kind and a file's bytes stay two parameters, as in the
+// definitions: a struct of both would be written out in each clause.)
 #[derive(Clone, Copy)]
 pub enum Kind {
     // Objects with CCSDS labels of these versions, inside one another.

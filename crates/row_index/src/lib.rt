@@ -1,6 +1,7 @@
 // The index of a labelled file, built, checked, and the jump to a row by it. Renders document 01,
 // "The index and the jump"; the kept form of an index is a crate of its own, and windows are left to
-// the reader.
+// the reader. (The versions and a file's bytes stay two parameters, as in the definitions and in the C
+// interface: a struct of both would be written out in each clause.)
 #![tactic(auto)]
 
 ghost use Rattle.answer.specs.Told.{told};
@@ -54,6 +55,7 @@ impl IndexList for &[u32] {
 }
 
 // Row k, whole, by the list: the entry of its group of sixteen, and then a walk. Its depth is absent.
+#[tactic(auto, using(crate::proofs::JumpIsRead::too_big_to_jump, crate::proofs::JumpIsRead::no_entry, crate::proofs::JumpIsRead::entry_beyond, crate::proofs::JumpIsRead::jumps_from_entry))]
 pub fn jump_to(versions: Versions, file: &[u8], list: &[u32], k: usize) -> Result<Shown, Refused>
     ensures { told result ≡ jump_to versions file.now list.now k }
 {

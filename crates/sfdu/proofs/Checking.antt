@@ -1,11 +1,11 @@
 -- The check of a file, and reading a row: too big, or the scan of all of it.
-use Prim.Native.Nat.{ℕ, ◌+◌, ◌≤◌, ◌<◌}
-use native.Mathlib.Omega.{arith}
-use mathlib.Core.Path.{◌≡◌, refl, ◌∙◌, sym, ap}
+use Prim.Native.Nat.{ℕ, ◌≤◌, ◌<◌}
+use mathlib.Core.Path.{◌≡◌, ◌∙◌, sym, ap}
 use mathlib.Core.List.{List}
 use lib.ListN.{length}
 use borrow.Author.Tests.{le-leb, lt-leb, leb-true}
 use lib.Dec.{leb}
+use Rattle.std.specs.Prelude.{None, unwrap_or}
 use Rattle.label.specs.declared.Versions.{Versions}
 use Rattle.answer.specs.Outcome.{Outcome, answer, refuse, mapped}
 use Rattle.answer.specs.Nth.{nth}
@@ -15,10 +15,9 @@ use Rattle.sfdu.specs.Row.{Row, whole}
 use Rattle.sfdu.specs.Scan.{scan}
 use Rattle.sfdu.specs.Check.{rows_of_file}
 use Rattle.sfdu.specs.Find.{find_row}
-use Rattle.sfdu.specs.Search.{MarkedBy, nothing_seen, see_all, MarksInside}
+use Rattle.sfdu.specs.Search.{nothing_seen, see_all}
 use Rattle.sfdu.specs.Private.{Searched}
 use Rattle.sfdu.specs.declared.Seen.{Seen}
-use Rattle.sfdu.proofs.Seeing.{marked_later}
 
 -- which versions of the label are allowed
 module _ (versions : Versions) where
@@ -31,15 +30,10 @@ module _ (versions : Versions) where
   not_too_big f h = rw (le-leb (length f) largest_file h)
 
   -- the nested search of the whole file sees the file's rows
-  pub whole_file : (f : List ℕ) (k : ℕ) (r : Outcome Seen) → length f ≤ largest_file → Searched versions f 0 8 (λ at. at) k nothing_seen r
-      → (r ≡ mapped (see_all k nothing_seen) (rows_of_file versions f)) × MarksInside r
+  pub whole_file : (f : List ℕ) (k : ℕ) (r : Outcome Seen) → length f ≤ largest_file → Searched versions f 0 8 (unwrap_or None) k nothing_seen r
+      → r ≡ mapped (see_all k nothing_seen) (rows_of_file versions f)
   unfolding scan
-  whole_file f k r h searched =
-      (searched.sees ∙ ap (mapped (see_all k nothing_seen)) (sym (not_too_big f h)), inside r searched.few)
-    where
-      inside : (o : Outcome Seen) → ((s : Seen) → o ≡ answer s → (s.rows ≤ 0 + length f) × MarkedBy (0 + length f) s.mark) → MarksInside o
-      inside (answer s) few = marked_later s.mark (0 + length f) largest_file (omega arith) (few s refl).1
-      inside (refuse n p) few = tt
+  whole_file f k r h searched = searched.sees ∙ ap (mapped (see_all k nothing_seen)) (sym (not_too_big f h))
 
   -- a file whose rows are known: reading row k is taking the k-th of them
   pub reads_the_row : (f : List ℕ) (rows : List Row) → rows_of_file versions f ≡ answer rows → (k : ℕ) → find_row versions f k ≡ mapped whole (nth rows k)

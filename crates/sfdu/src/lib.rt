@@ -80,7 +80,8 @@ impl Seen {
 
 // Searches a part of a file, from place `base` on, for row `k`, with `left` more depths allowed, to the
 // part's end or to its first fault: siblings by the loop, what is inside an object by a call on its
-// value. The objects of the part lie each in itself, or all in the outermost object `outer`.
+// value. (A `while`: the places to stop at are the objects' ends, which a `for` would not count.) The
+// objects of the part lie each in itself, or all in the outermost object `outer`.
 fn search_part(
     versions: Versions,
     part: &[u8],
@@ -131,6 +132,7 @@ fn search_part(
 }
 
 // Searches a whole file for row `k`: 14, then its first fault.
+#[tactic(auto, using(crate::proofs::Checking::too_big))]
 pub fn search_file(versions: Versions, file: &[u8], k: usize) -> Result<Seen, Refused>
     ensures sees { told result ≡ mapped (see_all k nothing_seen) (rows_of_file versions file.now) }
     ensures inside { MarksInside (told result) }

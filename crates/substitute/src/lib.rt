@@ -30,6 +30,7 @@ pub struct Chosen {
 }
 
 // Row `k` of the original, or its refusal.
+#[tactic(auto, using(crate::proofs::Rows::found_is_row))]
 fn read_original(versions: Versions, original: &[u8], k: usize) -> Result<Chosen, Refused>
     ensures { told result ≡ mapped (from Source.Original) (row_of (Kind.Labelled versions) original.now k) }
 {

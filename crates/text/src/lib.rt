@@ -9,7 +9,7 @@ ghost use Rattle.text.specs.Decimal.{decimal_text};
 use std::marker::Model;
 
 // A number's text, which contracts see as the list of its bytes. Of the memory that it stands in, what
-// stands before `first` is left free.
+// stands before `first` is left free. (Fixed memory: the project has no heap, and so no `String`.)
 #[derive(Drop)]
 pub struct Numeral {
     digits: [u8; 20],

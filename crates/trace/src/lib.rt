@@ -23,6 +23,7 @@ pub struct Dot {
 
 // Row `first` + `y`, whole; 6 where that number is none of 64 bits, in a file that the check accepts: a file has
 // fewer rows, since they are counted in 64 bits.
+#[tactic(auto, using(crate::proofs::OneDot::of_a_refused_file))]
 fn row_of_line(kind: Kind, file: &[u8], first: usize, y: usize) -> Result<Shown, Refused>
     ensures { told result ≡ find_row kind file.now (first + y) }
 {

@@ -1,5 +1,5 @@
 -- The cases of `by_exponent` and `reading`, as equations from what a test showed; what is answered; where a refusal stands.
-use Prim.Native.Nat.{ℕ, ◌≤◌, ◌<◌}
+use Prim.Native.Nat.{ℕ, ◌≤◌}
 use native.Mathlib.Omega.{arith}
 use mathlib.Core.Path.{◌≡◌, sym, subst}
 use mathlib.Core.Bool.{Bool, true, false, not, ◌&&◌, cond}
@@ -7,28 +7,12 @@ use mathlib.Core.List.{List}
 use lib.ListN.{length}
 use lib.Dec.{leb, eqb}
 use lib.Ieee.{Float}
-use borrow.Author.Tests.{le-leb, lt-leb, eq-eqb, ne_eqb}
+use borrow.Author.Tests.{le-leb}
 use Rattle.answer.specs.Outcome.{Outcome, answer, refuse, need}
-use Rattle.vax.specs.Fields.{sign_of, negative, exponent}
-use Rattle.vax.specs.Numbers.{zero_float, by_exponent, reading, nearest_D, vax_D}
+use Rattle.vax.specs.Fields.{negative, exponent}
+use Rattle.vax.specs.Numbers.{zero_float, by_exponent, reading}
 
 module _ (x : Float) (s : List ℕ) where
-  pub reserved : sign_of s ≡ 1 → exponent s ≡ 0 → by_exponent x s ≡ refuse 9 0
-  reserved h z = simp (eq-eqb (sign_of s) 1 h, eq-eqb (exponent s) 0 z)
-
-  pub any_zero : (sign_of s ≡ 1 → ⊥) → exponent s ≡ 0 → by_exponent x s ≡ answer zero_float
-  any_zero h z = simp (ne_eqb (sign_of s) 1 h, eq-eqb (exponent s) 0 z)
-
-  pub not_zero : (exponent s ≡ 0 → ⊥) → by_exponent x s ≡ answer x
-  not_zero h = go (negative s) (eqb (exponent s) 0) (ne_eqb (exponent s) 0 h)
-    where
-      go : (sign zero : Bool) → zero ≡ false → need (not (sign && zero)) 9 (answer (cond zero zero_float x)) ≡ answer x
-      go true zero e = simp e
-      go false zero e = simp e
-
-  pub too_short : (size : ℕ) → length s < size → reading size x s ≡ refuse 1 0
-  too_short size h = simp (lt-leb size (length s) h)
-
   pub long_enough : (size : ℕ) → size ≤ length s → reading size x s ≡ by_exponent x s
   long_enough size h = simp (le-leb size (length s) h)
 
@@ -62,7 +46,3 @@ reading_has P size x s m has none = go (leb size (length s)) (negative s) (eqb (
 -- both clauses of a promise, from the first
 pub both_clauses : (Q : Outcome Float → Type 0) (w : Outcome Float) → Q w → (o : Outcome Float) → o ≡ w → (o ≡ w) × Q o
 both_clauses Q w h o e = (e, subst Q (sym e) h)
-
--- every refusal of a D number stands at its first byte
-pub vax_D_refused_at_0 : (s : List ℕ) (n p : ℕ) → vax_D s ≡ refuse n p → p ≡ 0
-vax_D_refused_at_0 s = refused_at_0 (nearest_D s) s 8

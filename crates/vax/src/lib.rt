@@ -25,6 +25,7 @@ fn word(bytes: &[u8], at: usize) -> u64
 // The number that `bytes` starts with: refusal 9 or zero for exponent 0, else the float whose pattern is
 // the sign, then `size` and 894 more in the exponent's field. `size` is the number's exponent, then 52
 // digits of its fraction; digits that were rounded up run over into the exponent.
+#[tactic(auto, using(crate::proofs::Patterns::no_nan))]
 fn number(bytes: &[u8], size: u64) -> Result<f64, Refused>
     requires { (4 ≤ length bytes.now) × (size ≤ 2 ^ 60) }
     ensures { told result ≡ by_exponent (patterned size bytes.now) bytes.now }
@@ -42,6 +43,7 @@ fn number(bytes: &[u8], size: u64) -> Result<f64, Refused>
     Ok(float)
 }
 
+// (Its words stand highest first, each little-endian: no method of the library reads that order.)
 // The 31 bits of an F number below its sign, exponent and fraction, which are also the upper ones of a D
 // number.
 fn bits_f(bytes: &[u8]) -> u64
@@ -61,7 +63,7 @@ fn bits_d(bytes: &[u8]) -> u64
 
 // The F number in the first 4 bytes, exactly: `exact` says what the float is over whole numbers.
 pub fn vax_f(bytes: &[u8]) -> Result<f64, Refused>
-    ensures result_value { told result ≡ vax_F bytes.now }
+    ensures answers { told result ≡ vax_F bytes.now }
     ensures exact { ExactF bytes.now (told result) }
 {
     if bytes.len() < 4 {
@@ -91,7 +93,7 @@ fn dropped_eighth(bits: u64) -> u64
 // The D number in the first 8 bytes as the nearest 64-bit float, a tie going to the even one: `nearest`
 // says over whole numbers what that means and how far the float is from the number.
 pub fn vax_d(bytes: &[u8]) -> Result<f64, Refused>
-    ensures result_value { told result ≡ vax_D bytes.now }
+    ensures answers { told result ≡ vax_D bytes.now }
     ensures nearest { NearestD bytes.now (told result) }
 {
     if bytes.len() < 8 {
@@ -101,9 +103,10 @@ pub fn vax_d(bytes: &[u8]) -> Result<f64, Refused>
 }
 
 // The D number in the first 8 bytes, its three lowest fraction bits dropped and the rest exact, for old
-// jobs: `exact` says what the float is over whole numbers.
+// jobs: `exact` says what the float is over whole numbers. (A twin of `vax_d` but for the eighth and what
+// is promised of it; one function over the eighth would have to be promised for any, and is no plainer.)
 pub fn vax_d_dropped(bytes: &[u8]) -> Result<f64, Refused>
-    ensures result_value { told result ≡ vax_D_dropped bytes.now }
+    ensures answers { told result ≡ vax_D_dropped bytes.now }
     ensures exact { ExactDroppedD bytes.now (told result) }
 {
     if bytes.len() < 8 {

@@ -20,6 +20,7 @@ pub struct Leaf {
 
 // The label at the front of `s`, as a walk takes it: that of a leaf that ends inside the file, or `None`
 // where the object is opened.
+#[tactic(auto, using(label::proofs::Reading::read_has_20_bytes, crate::proofs::Walking::step_not_read, crate::proofs::Walking::step_opened, crate::proofs::Walking::step_too_long, crate::proofs::Walking::step_leaf))]
 fn step_at(versions: Versions, s: &[u8]) -> Result<Option<Label>, Refused>
     ensures { told result ≡ step_at versions s.now }
 {
@@ -34,7 +35,8 @@ fn step_at(versions: Versions, s: &[u8]) -> Result<Option<Label>, Refused>
 }
 
 // Walks forward from place `from`, passing so many leaves, to the next leaf: 14, 6 for a place past the
-// end, then as met. It reads no more of the file than it passes.
+// end, then as met. It reads no more of the file than it passes. (A `while`: the places to stop at are the
+// labels', which a `for` would not count.)
 pub fn walk_from(
     versions: Versions,
     file: &[u8],
@@ -75,6 +77,7 @@ pub fn walk_from(
 }
 
 // The row of the leaf that a walk from place `from` comes to, after so many leaves. Its depth is absent.
+#[tactic(auto, using(crate::proofs::Finding::walked_value_fits))]
 pub fn row_from(
     versions: Versions,
     file: &[u8],

@@ -1,14 +1,7 @@
 -- `trace::row_of_line` meets its contract: a row's number that passes 64 bits is beyond the last row.
 use Rattle.std.proofs.Common.{arith, ◌+◌, sym}
-use Rattle.std.proofs.lemmas.Result.{err_from_is_err_and}
-use Rattle.trace.proofs.OneDot.{past_the_last, of_a_refused_file}
+use Rattle.trace.proofs.OneDot.{past_the_last}
 use Rattle.trace.proofs.row_of_line.Goals as goal
-
-pub returns-in_err-check-in-None : goal.returns-in_err-check-in-None
-returns-in_err-check-in-None c =
-    let a = c.args in
-    let p = err_from_is_err_and c.from_residual.result c.from_residual.ensures.1 in
-    rw (p.1, p.2) (sym (of_a_refused_file a.kind a.file.now _ _ (a.first + a.y) (sym c.in_err-check-in-None.ensures)))
 
 pub returns-in_ok-check-in-None : goal.returns-in_ok-check-in-None
 returns-in_ok-check-in-None c =

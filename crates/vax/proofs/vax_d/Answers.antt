@@ -1,18 +1,14 @@
 -- `vax::vax_d` meets its contract: `number` answers for the nearest eighth of the bits, which is the definition's float.
 use Prim.Native.Nat.{ℕ}
-use mathlib.Core.Path.{◌∙◌, sym, ap}
+use mathlib.Core.Path.{◌∙◌, ap}
 use Rattle.answer.specs.Told.{told}
-use Rattle.vax.specs.Numbers.{by_exponent, nearest_D, vax_D}
+use Rattle.vax.specs.Numbers.{by_exponent, vax_D}
 use Rattle.vax.specs.Nearest.{NearestD}
 use Rattle.vax.specs.Private.{patterned}
-use Rattle.vax.proofs.Cases.{too_short, never, both_clauses}
+use Rattle.vax.proofs.Cases.{both_clauses}
 use Rattle.vax.proofs.Mantissas.{from-D}
 use Rattle.vax.proofs.Nearest.{vax_D_nearest}
 use Rattle.vax.proofs.vax_d.Goals as goal
-
-pub returns-then-bytes-lt8 : goal.returns-then-bytes-lt8
-returns-then-bytes-lt8 c =
-    let s = c.args.bytes.now in record { result_value = sym (too_short (nearest_D s) s 8 c.if-bytes-lt8.true); nearest = λ x e. never 1 0 x e }
 
 pub returns : goal.returns
 returns c =
@@ -22,4 +18,4 @@ returns c =
     (c.number.ensures
     ∙ ap (λ (q : ℕ). by_exponent (patterned q s) s) c.nearest_eighth.ensures.0
     ∙ from-D s bits.result bits.ensures.0 bits.ensures.1 c.if-bytes-lt8.false) in
-    record { result_value = both.0; nearest = both.1 }
+    record { answers = both.0; nearest = both.1 }
