@@ -41,7 +41,7 @@ impl Value {
     }
 }
 
-// The signed number with these bits.
+// The signed number with these bits, a name for the library's two conversions.
 fn signed(bits: u32) -> i64
     ensures { result ≡ signed_of bits }
 {

@@ -33,7 +33,7 @@ pub fn line_bytes(c: usize) -> usize
     c.div_ceil(8)
 }
 
-// Four numbers of 16 bits in a word, the first of them lowest.
+// Four numbers of 16 bits in a word, the first of them lowest. (No method of the library makes one of four.)
 fn lanes(p: usize, q: usize, r: usize, s: usize) -> usize
     requires { (p < 65536) × (q < 65536) × (r < 65536) × (s < 65536) }
     ensures { result ≡ lanes_of p q r s }
@@ -72,7 +72,7 @@ fn masked(word: usize, mask: usize) -> usize
     (word / 256) & mask
 }
 
-// Four times two bits, the first leftmost, as a byte.
+// Four times two bits, the first leftmost, as a byte. (Bits of a word, which the library has no type for.)
 fn gather(word: usize) -> u8
     requires { word < 1125899906842624 }
     ensures { result ≡ gathered word }

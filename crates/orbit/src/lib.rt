@@ -30,6 +30,7 @@ fn time_at(bytes: &[u8], at: usize) -> Result<f64, Refused>
     requires { at + 8 ≤ length bytes.now }
     ensures { told result ≡ time_at bytes.now at }
 {
+    // By `match`: of `map_err` with a sum in its closure the search found no proof.
     match vax::vax_d(&bytes[at..at + 8]) {
         Ok(time) => Ok(time),
         Err(Refused(why, place)) => Err(Refused(why, at + place)),

@@ -73,7 +73,7 @@ pub fn jump_to(versions: Versions, file: &[u8], list: &[u32], k: usize) -> Resul
     walk::row_from(versions, file, entry, k % GROUP)
 }
 
-// The place of the label that a walk comes to; 0 where it comes to none.
+// The place of the label that a walk comes to; 0 where it comes to none, as callers are promised.
 pub fn entry_from(versions: Versions, file: &[u8], from: usize, leaves: usize) -> usize
     ensures { (result ≡ place_found (walk_from versions file.now from leaves)) × (result ≤ length file.now) }
 {
@@ -91,6 +91,7 @@ fn write_entries(versions: Versions, file: &[u8], entries: usize, list: &mut [u3
 {
     let mut from: usize = 0;
     let mut leaves: usize = 0;
+    // By index: of values behind an adapter of `iter_mut` std promises nothing.
     for i in 0..entries {
         let place = entry_from(versions, file, from, leaves);
         list[i] = place as u32;
@@ -106,6 +107,7 @@ fn entries_agree<E: IndexList>(versions: Versions, file: &[u8], list: E) -> bool
 {
     let mut from: usize = 0;
     let mut leaves: usize = 0;
+    // By index: a list that stands in bytes has no iterator of its own.
     for i in 0..list.count() {
         let place = entry_from(versions, file, from, leaves);
         if list.entry(i) != place {

@@ -106,6 +106,7 @@ fn search_part(
         let place = base + at;
         let top = outer.unwrap_or(place);
         match object_at(versions, part, at) {
+            // Told at a place of the file: `map_err` before the `?` is no plainer beside two arms more.
             Err(why) => {
                 return Err(Refused(why, place));
             }

@@ -55,6 +55,7 @@ pub fn walk_from(
     let mut left = leaves;
     while at < file.len() {
         match step_at(versions, &file[at..]) {
+            // Told at a place of the file: `map_err` before the `?` is no plainer beside two arms more.
             Err(Refused(why, _)) => {
                 return Err(Refused(why, at));
             }

@@ -55,6 +55,7 @@ impl FixedRows for Waveform {
     }
 }
 
+// (These four calls are named by pages and by C, and so stay beside the generic ones.)
 // The number of rows; 14 for a file that is too large, 12 for one that is not whole rows.
 pub fn check(file: &[u8]) -> Result<usize, Refused>
     ensures { told result ≡ count_rows waveform file.now }
