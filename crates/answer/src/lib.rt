@@ -36,7 +36,8 @@ pub enum Refusal {
 }
 
 impl Refusal {
-    // The document's number of a refusal.
+    // The document's number of a refusal. (By a `match`, as its definition: a cast would tie the numbers to
+    // the order of the arms.)
     pub fn number(self) -> usize
         ensures { result ≡ number_of self }
     {

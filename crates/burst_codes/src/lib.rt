@@ -42,7 +42,7 @@ pub fn beams(mask: usize) -> Option<usize>
     Some(mask.count_ones() as usize)
 }
 
-// The compression mode with this number, where one has it.
+// The compression mode with this number, where one has it. (Named by pages, and so no `TryFrom` in its place.)
 pub fn mode(number: usize) -> Option<Compression>
     ensures { option_map mode_number result ≡ numbered number }
 {

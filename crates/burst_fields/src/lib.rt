@@ -48,7 +48,8 @@ fn signed(bits: u32) -> i64
     i64::from(bits.cast_signed())
 }
 
-// What the bytes of a part that lies in the file hold, by their storage type.
+// What the bytes of a part that lies in the file hold, by their storage type: an arm for each, as in the
+// definition.
 fn content(file: &[u8], stored: Storage, part: Part) -> Value
     requires { (part.place + part.count ≤ length file.now) × SizeFits stored part.count }
     ensures { result ≡ content_of stored file.now part }

@@ -5,7 +5,8 @@
 // numbers: place, count, its label's place, 1 or 0 for whether its depth is known, its depth, its
 // outermost object's place. A dot is four: its byte's place, the byte, its tone, 1 or 0 for whether it is
 // set. What is answered is left to the crates below; the C declarations, and what a C caller owes, are left
-// to the header.
+// to the header. (Calls that differ in the kind of file alone, and numbers for verdicts, sources and modes,
+// stay: the C interface has them.)
 #![tactic(auto)]
 
 ghost use Rattle.answer.specs.Told.{told};
@@ -304,7 +305,7 @@ pub extern "C" fn crest_row_from_bursts(
     hand::row(bursts::row_from(file, start, from), shown)
 }
 
-// The number of a source.
+// The number of a source for C.
 fn source_number(source: Source) -> usize
     ensures { result ≡ source_number source }
 {

@@ -93,7 +93,8 @@ fn shown_at<R: FixedRows>(rows: R, start: usize) -> Shown
     answer::unlabelled(start + rows.skip(), rows.size())
 }
 
-// Row `k`, found by passing the rows before it: 14, 16, 12, 6.
+// Row `k`, found by passing the rows before it: 14, 16, 12, 6. (Kind, bytes and number stay parameters: no two
+// of them are one thing.)
 pub fn find_row<R: FixedRows>(rows: R, file: &[u8], k: usize) -> Result<Shown, Refused>
     ensures { told result ≡ find_row (R.shape rows) file.now k }
 {

@@ -94,7 +94,7 @@ pub fn row(answer: Result<Shown, Refused>, numbers: &mut [usize; 6]) -> Status
     }
 }
 
-// The number of a verdict: 0 below, 1 inside, 2 above.
+// The number of a verdict for C: 0 below, 1 inside, 2 above.
 fn side_number(side: Side) -> usize
     ensures { result ≡ side_number side }
 {

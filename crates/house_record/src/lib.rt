@@ -49,6 +49,7 @@ fn take_entries(bytes: &[u8], list: &mut [u32])
     requires { length bytes.now ≡ 4 * length list.old }
     ensures { list.new ≡ entries_of (length list.old) bytes.now }
 {
+    // By place: of values behind a `zip` of `iter_mut` std promises nothing.
     for (i, entry) in list.iter_mut().enumerate() {
         *entry = little::four_at(bytes, 4 * i);
     }

@@ -30,7 +30,7 @@ pub enum Version {
 }
 
 impl Version {
-    // The document's number of a version.
+    // The document's number of a version, by a `match` as its definition.
     pub fn number(self) -> u8
         ensures { result ≡ version_number self }
     {

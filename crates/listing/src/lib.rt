@@ -79,7 +79,8 @@ impl Line {
     }
 }
 
-// The first line: how many rows were found, or the refusal.
+// The first line: how many rows were found, or the refusal. (By hand, though `Refused` has a `Display`: what
+// that writes has no contract.)
 fn head_line(checked: Result<usize, Refused>) -> Line
     ensures { result ≡ head_text (told checked) }
 {

@@ -18,7 +18,8 @@ use label::Versions;
 
 // The kinds of file. (They are few and closed, and the C interface and the definitions go by them: a
 // `match` is plainer than a trait or closures. A kind and a file's bytes stay two parameters, as in the
-// definitions: a struct of both would be written out in each clause.)
+// definitions: a struct of both would be written out in each clause; so do a row's number and its window,
+// of which many go with one row.)
 #[derive(Clone, Copy)]
 pub enum Kind {
     // Objects with CCSDS labels of these versions, inside one another.

@@ -33,7 +33,7 @@ impl Numeral {
     }
 }
 
-// The character of a number's last decimal digit.
+// The character of a number's last decimal digit. (By hand: what the library's `Display` writes has no contract.)
 pub fn last_digit(n: usize) -> u8
     ensures { result ≡ 48 + n % 10 }
 {

@@ -36,7 +36,8 @@ fn row_of_line(kind: Kind, file: &[u8], first: usize, y: usize) -> Result<Shown,
     }
 }
 
-// The dot at column `x` of line `y` of a strip that starts with row `first`.
+// The dot at column `x` of line `y` of a strip that starts with row `first`. (A dot is asked for once: a
+// struct of strip and place would be made for the one call.)
 pub fn behind(
     kind: Kind,
     file: &[u8],
