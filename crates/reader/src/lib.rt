@@ -155,9 +155,9 @@ pub fn beginning(kind: Kind) -> usize
     }
 }
 
-// Going on: the first whole row from a place on, of a labelled file without its depth. From 0, in bursts from the first record's place, it is
-// row 0; from the end of one row's bytes, the next row. A strip of n rows is read so in time that grows
-// with the strip and not with the file.
+// Going on: the first whole row from a place on, of a labelled file without its depth. From 0, in bursts
+// from the first record's place, it is row 0; from the end of one row's bytes, the next row. A strip of n
+// rows is read so in time that grows with the strip and not with the file.
 pub fn row_from(kind: Kind, file: &[u8], from: usize) -> Result<Shown, Refused>
     ensures { told result ≡ row_from kind file.now from }
 {
