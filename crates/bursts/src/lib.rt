@@ -4,7 +4,8 @@
 // `burst_fields`, windows of it to the reader.
 //
 // The caller vouches for the kind of the file and for the first place: nothing here looks into a
-// record. (The two stay parameters of the public calls, as the C interface lends them.)
+// record. (The two stay parameters of the public calls, and the four calls stay beside the generic ones: pages
+// and C have them so.)
 #![tactic(auto)]
 
 ghost use Rattle.answer.specs.Told.{told};

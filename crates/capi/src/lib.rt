@@ -6,7 +6,8 @@
 // outermost object's place. A dot is four: its byte's place, the byte, its tone, 1 or 0 for whether it is
 // set. What is answered is left to the crates below; the C declarations, and what a C caller owes, are left
 // to the header. (Calls that differ in the kind of file alone, and numbers for verdicts, sources and modes,
-// stay: the C interface has them.)
+// stay: the C interface has them. `Err(refused) => Status::from(refused)` stands where `?` would: a call
+// answers a struct of C's.)
 #![tactic(auto)]
 
 ghost use Rattle.answer.specs.Told.{told};

@@ -65,7 +65,7 @@ fn cuts_from(x: usize, y: usize) -> usize
     )
 }
 
-// The bits of a word that the mask has, eight places lower. (The odd bytes, four at once.)
+// The bits of a word that the mask has, eight places lower. (By division, as the definition.)
 fn masked(word: usize, mask: usize) -> usize
     ensures { (result ≡ bit_and (word / 256) mask) × (result ≤ mask) }
 {
@@ -131,7 +131,7 @@ fn put_line(samples: &[u8], y: usize, out: &mut [u8])
 {
     let cuts = Cuts::of_row(y);
     let (eights, rest) = samples.as_chunks::<8>();
-    // By place: of values behind a `zip` of `iter_mut` std promises nothing.
+    // By place: of values behind a `zip` of `iter_mut` std promises nothing, and the rest of `out` stays.
     for (j, eight) in eights.iter().enumerate() {
         out[j] = cuts.dots(eight);
     }

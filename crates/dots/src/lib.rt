@@ -46,7 +46,7 @@ pub fn tone(sample: u8) -> u8
     TONES[usize::from(sample)]
 }
 
-// The number of the matrix for row `y` and column `x`.
+// The number of the matrix for row `y` and column `x`, two numbers as the request has them.
 pub fn matrix_at(x: usize, y: usize) -> usize
     ensures { (result ≡ level y x) × (result < 64) }
 {

@@ -1,7 +1,7 @@
 // How numbers of the C boundary become the library's choices, and how an answer of the library is
 // handed over: its parts through the pointers, and the status by value. On a refusal no pointer is
 // written. Renders document 01's "Every refusal carries its number and a place" as numbers. The
-// exported functions are left to `capi`.
+// exported functions are left to `capi`. (Flags and numbers are the C interface's, and so stay here.)
 #![tactic(auto)]
 
 ghost use Rattle.std.specs.Prelude.{◌≡◌};

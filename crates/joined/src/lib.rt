@@ -42,7 +42,7 @@ fn put_further(
         × (entries ≤ length (further versions base file.now passed)) × (entries ≤ length list.old) }
     ensures { list.new ≡ take entries (further versions base file.now passed) ++ drop entries list.old }
 {
-    // By index: of values behind an adapter of `iter_mut` std promises nothing.
+    // By index: the promise is of the whole list, which `list[..entries].iter_mut()` would take apart.
     for i in 0..entries {
         let from = index[i] as usize;
         let place = row_index::entry_from(versions, file, from, passed);

@@ -99,7 +99,7 @@ fn is_code(b: u8) -> bool
     b.is_ascii_uppercase() | b.is_ascii_digit()
 }
 
-// Byte 4 of a label of this version.
+// Byte 4 of a label of this version, by a `match` as its definition.
 fn version_byte(version: Version) -> u8
     ensures { result ≡ version_byte version }
 {
@@ -171,7 +171,7 @@ fn spaces_in(field: &[u8]) -> usize
 }
 
 // The number that one or more digits write, eight at most. (A digit is widened before 48 is taken from
-// it: by `digit - b'0'` a label of eight digits took 1.1 ns more.)
+// it: by `digit - b'0'` a label of eight digits took 1.1 ns more. `from_str_radix` would take a sign.)
 fn number_in(digits: &[u8]) -> Option<usize>
     requires { size digits.now ≤ field_size }
     ensures { result ≡ number_in digits.now }

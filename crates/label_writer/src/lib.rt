@@ -41,7 +41,8 @@ fn can_hold(version: Version, n: usize) -> bool
     }
 }
 
-// The length field of a label of this version: eight digits, or eight bytes, most significant first.
+// The length field of a label of this version: eight digits, or eight bytes, most significant first. (A
+// `match`, as its definition.)
 fn field_of(version: Version, n: usize) -> [u8; 8]
     ensures { result ≡ field_of version n }
 {

@@ -51,6 +51,7 @@ pub fn find_row(versions: Versions, file: &[u8], k: usize) -> Result<Shown, Refu
     ensures { told result ≡ find_row versions file.now k }
 {
     let seen = sfdu::search_file(versions, file, k)?;
+    // By `match`: with `ok_or` and `?` it is as long, and its proof longer.
     match seen.mark {
         Some(mark) => Ok(marked_row(mark)),
         None => Err(Refused(Refusal::NoRow, 0)),

@@ -20,7 +20,8 @@ use label::Versions;
 use std::marker::Model;
 use walk::Leaf;
 
-// Puts a text at place `at` of `out` and answers where it ends.
+// Puts a text at place `at` of `out` and answers where it ends. (Lent memory and a place in it: the project
+// has no heap.)
 fn put(text: &[u8], out: &mut [u8], at: usize) -> usize
     requires { at + length text.now ≤ length out.old }
     ensures { Puts at text.now out.old result out.new }
@@ -79,8 +80,8 @@ impl Line {
     }
 }
 
-// The first line: how many rows were found, or the refusal. (By hand, though `Refused` has a `Display`: what
-// that writes has no contract.)
+// The first line: how many rows were found, or the refusal. (By hand, though `Refused` has a `Display`: that
+// wants a `fmt::Write` for the line, with its ghost output, and is no plainer.)
 fn head_line(checked: Result<usize, Refused>) -> Line
     ensures { result ≡ head_text (told checked) }
 {

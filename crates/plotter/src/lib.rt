@@ -28,7 +28,7 @@ fn start_of(kind: Kind, file: &[u8], first: usize) -> Result<usize, Refused>
     Ok(row.part.place + row.part.count)
 }
 
-// Draws line `y`, of the `c` bytes at `place`, at byte `at` of `out`.
+// Draws line `y`, of the `c` bytes at `place`, at byte `at` of `out`, which C lends.
 fn draw_row(file: &[u8], place: usize, c: usize, y: usize, at: usize, out: &mut [u8])
     requires { (place + c ≤ length file.now) × (at + line_bytes c ≤ length out.old) }
     ensures { out.new ≡ take at out.old ++ line y (bytes_at file.now place c) ++ drop (at + line_bytes c) out.old }

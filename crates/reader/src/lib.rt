@@ -41,8 +41,8 @@ pub fn check(kind: Kind, file: &[u8]) -> Result<usize, Refused>
     }
 }
 
-// Row `k`, whole, found from the first byte. (A twin of `whole_row` that must stay: this way passes row after
-// row, and theorem `demand_3` sets it beside the jump.)
+// Row `k`, whole, found from the first byte. (A twin of `whole_row` that must stay: reading
+// passes row after row, as document 01 has it, and a row that is only sought is computed.)
 fn find_row(kind: Kind, file: &[u8], k: usize) -> Result<Shown, Refused>
     ensures { told result ≡ find_row kind file.now k }
 {

@@ -91,7 +91,7 @@ fn write_entries(versions: Versions, file: &[u8], entries: usize, list: &mut [u3
 {
     let mut from: usize = 0;
     let mut leaves: usize = 0;
-    // By index: of values behind an adapter of `iter_mut` std promises nothing.
+    // By index: the promise is of the whole list, which `list[..entries].iter_mut()` would take apart.
     for i in 0..entries {
         let place = entry_from(versions, file, from, leaves);
         list[i] = place as u32;

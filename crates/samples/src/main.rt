@@ -56,6 +56,7 @@ fn named(time: f64) -> &'static str {
 fn print_opening(rt: &HostRuntime, name: &str) -> io::Result<()> {
     let mut memory = [0u8; 540];
     let mut file = File::open(rt, name)?;
+    // Of a failed read what was read, as the sample has always been.
     let _ = input::read_up_to(&mut file, &mut memory);
     match orbit::per_orbit_opening(&memory[28..]) {
         Ok(opening) => println!(rt;
@@ -87,6 +88,7 @@ fn print_shown(rt: &HostRuntime, shown: Result<Shown, Refused>) -> io::Result<()
 fn print_both_versions(rt: &HostRuntime, name: &str) -> io::Result<()> {
     let mut memory = [0u8; 108];
     let mut file = File::open(rt, name)?;
+    // Of a failed read what was read, as the sample has always been.
     let _ = input::read_up_to(&mut file, &mut memory);
     let file = &memory;
     let kind = Kind::Labelled(Versions::OneAndTwo);

@@ -32,6 +32,7 @@ fn object_at(versions: Versions, part: &[u8], at: usize) -> Result<Object, Refus
     ensures { Stands versions part.now at result }
 {
     match label::read_label(versions, &part[at..]) {
+        // The search tells the place; `map_err` would be no plainer.
         Err(Refused(why, _)) => Err(why),
         Ok(l) => {
             let body = at + label::LABEL;

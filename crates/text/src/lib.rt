@@ -33,7 +33,8 @@ impl Numeral {
     }
 }
 
-// The character of a number's last decimal digit. (By hand: what the library's `Display` writes has no contract.)
+// The character of a number's last decimal digit. (By hand: `Display` wants a `fmt::Write`
+// of one's own to write to, with its ghost output, and is no plainer.)
 pub fn last_digit(n: usize) -> u8
     ensures { result ≡ 48 + n % 10 }
 {

@@ -25,7 +25,7 @@ fn word(bytes: &[u8], at: usize) -> u64
 // The number that `bytes` starts with: refusal 9 or zero for exponent 0, else the float whose pattern is
 // the sign, then `size` and 894 more in the exponent's field. `size` is the number's exponent, then 52
 // digits of its fraction; digits that were rounded up run over into the exponent. (Its fields are taken by
-// division: they are no whole bytes.)
+// division: they are no whole bytes. Both forms come here, so that no array type has its bytes.)
 #[tactic(auto, using(crate::proofs::Patterns::no_nan))]
 fn number(bytes: &[u8], size: u64) -> Result<f64, Refused>
     requires { (4 ≤ length bytes.now) × (size ≤ 2 ^ 60) }
