@@ -377,22 +377,15 @@ pub extern "C" fn crest_build_index(
     )
 }
 
-// A list, or a record, that is the file's, or not.
-fn verified(answer: Result<(), Refused>) -> Status
-    ensures { result ≡ status_of (told answer) }
-{
-    match answer {
-        Ok(()) => hand::DONE,
-        Err(refused) => Status::from(refused),
-    }
-}
-
 // Whether the whole list is the index of a labelled file.
 #[unsafe(no_mangle)]
 pub extern "C" fn crest_check_index(file: &[u8], version_2: bool, list: &[u32]) -> Status
     ensures { result ≡ status_of (check_index (choice_of version_2) file.now list.now) }
 {
-    verified(row_index::check_index(hand::choice(version_2), file, list))
+    hand::value(
+        row_index::check_index(hand::choice(version_2), file, list),
+        &mut (),
+    )
 }
 
 // Writes the index of two labelled files set end to end to the front of the list; `index` is the first
@@ -497,7 +490,10 @@ pub extern "C" fn crest_convert_2_to_1(kept: &[u8], out: &mut [u8], written: &mu
 pub extern "C" fn crest_check_kept2(file: &[u8], version_2: bool, kept: &[u8]) -> Status
     ensures { result ≡ status_of (check_kept2 (choice_of version_2) file.now kept.now) }
 {
-    verified(kept_check::check(hand::choice(version_2), file, kept))
+    hand::value(
+        kept_check::check(hand::choice(version_2), file, kept),
+        &mut (),
+    )
 }
 
 // The tone of a sample.

@@ -53,7 +53,7 @@ pub fn choice(version_2: bool) -> Versions
     Versions::One
 }
 
-// An answer of one part: a number, or a float.
+// An answer of one part: a number, a float, or nothing but that it is one.
 pub fn value<T: Copy>(answer: Result<T, Refused>, memory: &mut T) -> Status
     ensures value { result ≡ status_of (told answer) }
     ensures memory_after { memory.new ≡ handed (λ x. x) (told answer) memory.old }

@@ -17,7 +17,7 @@ pub struct Opening {
     pub stop: f64,
 }
 
-// Bytes 0-3, unsigned little-endian.
+// Bytes 0-3, unsigned little-endian. (By std: `little`, which has the same of a slice, is the kept form's.)
 fn orbit_number(bytes: &[u8]) -> usize
     requires { 4 ≤ length bytes.now }
     ensures { result ≡ orbit_number bytes.now }

@@ -63,10 +63,7 @@ pub fn jump_to(versions: Versions, file: &[u8], list: &[u32], k: usize) -> Resul
         return Err(Refused(Refusal::TooBig, 0));
     }
     let group = k / GROUP;
-    if list.len() <= group {
-        return Err(Refused(Refusal::NoRow, 0));
-    }
-    let entry = list[group] as usize;
+    let entry = *list.get(group).ok_or(Refused(Refusal::NoRow, 0))? as usize;
     if file.len() < entry {
         return Err(Refused(Refusal::BadIndex, 0));
     }

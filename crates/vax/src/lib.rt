@@ -14,7 +14,7 @@ ghost use Rattle.vax.specs.Private.{patterned, below_sign_F, below_sign_D, BitsF
 
 use answer::{Refusal, Refused};
 
-// The little-endian word of 16 bits at `at`.
+// The little-endian word of 16 bits at `at`. (By std: `little`, which has the same in 32 bits, is the kept form's.)
 fn word(bytes: &[u8], at: usize) -> u64
     requires { at + 1 < length bytes.now }
     ensures { (result ≡ word_at bytes.now at) × (result < 65536) }
