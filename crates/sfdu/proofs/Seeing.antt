@@ -1,9 +1,10 @@
 -- What a search has seen, one row more and rows in turn.
-use Prim.Native.Nat.{ℕ, ◌≤◌}
+use Prim.Native.Nat.{ℕ, ◌+◌, ◌≤◌}
 use native.Mathlib.Omega.{arith}
-use mathlib.Core.Path.{◌≡◌, refl}
+use mathlib.Core.Path.{◌≡◌, refl, sym, ap}
 use mathlib.Core.Bool.{Bool, true, false, cond}
 use mathlib.Core.List.{List, [], ◌∷◌, ◌++◌}
+use borrow.Author.Tests.{eq-eqb, ne_eqb}
 use Rattle.std.specs.Prelude.{Option, Some, None}
 use Rattle.sfdu.specs.Row.{Row}
 use Rattle.sfdu.specs.Search.{mark_of, MarkedBy, see_row, see_all}
@@ -24,3 +25,10 @@ marked_either false r m end h marked = marked
 pub seen_in_turn : (k : ℕ) (xs ys : List Row) (s : Seen) → see_all k s (xs ++ ys) ≡ see_all k (see_all k s xs) ys
 seen_in_turn k [] ys s = refl
 seen_in_turn k (x ∷ xs) ys s = seen_in_turn k xs ys (see_row k s x)
+
+-- one row more: the one that is looked for, or another
+pub row_is_seen : (k : ℕ) (s : Seen) (r : Row) → s.rows ≡ k → record { rows = s.rows + 1; mark = Some (mark_of r) } ≡ see_row k s r
+row_is_seen k s r h = sym (ap (λ t. record { rows = s.rows + 1; mark = cond t (Some (mark_of r)) s.mark }) (eq-eqb s.rows k h))
+
+pub row_is_passed : (k : ℕ) (s : Seen) (r : Row) → (s.rows ≡ k → ⊥) → record { rows = s.rows + 1; mark = s.mark } ≡ see_row k s r
+row_is_passed k s r h = sym (ap (λ t. record { rows = s.rows + 1; mark = cond t (Some (mark_of r)) s.mark }) (ne_eqb s.rows k h))

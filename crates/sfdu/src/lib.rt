@@ -9,7 +9,7 @@ ghost use Rattle.std.specs.Prelude.{◌≡◌, ◌+◌, ◌^◌, ◌≤◌, ◌<
 ghost use Rattle.answer.specs.Size.{largest_file};
 ghost use Rattle.answer.specs.Outcome.{mapped};
 ghost use Rattle.sfdu.specs.Check.{rows_of_file};
-ghost use Rattle.sfdu.specs.Search.{MarkedBy, row_marked, nothing_seen, see_row, see_all, MarksInside};
+ghost use Rattle.sfdu.specs.Search.{MarkedBy, nothing_seen, see_all, MarksInside};
 ghost use Rattle.sfdu.specs.Private.{Stands, Searched};
 
 use answer::{Refusal, Refused};
@@ -65,20 +65,6 @@ pub struct Seen {
     pub mark: Option<Mark>,
 }
 
-impl Seen {
-    // What is seen with one row more: row `k`, which is marked, or another.
-    fn with_row(self, k: usize, row: Mark) -> Seen
-        requires { self.rows < 2 ^ 63 }
-        ensures { result ≡ see_row k self (row_marked row) }
-    {
-        let mark = if self.rows == k { Some(row) } else { self.mark };
-        Seen {
-            rows: self.rows + 1,
-            mark,
-        }
-    }
-}
-
 // Searches a part of a file, from place `base` on, for row `k`, with `left` more depths allowed, to the
 // part's end or to its first fault: siblings by the loop, what is inside an object by a call on its
 // value. (A `while`: the places to stop at are the objects' ends, which a `for` would not count.) The
@@ -112,13 +98,15 @@ fn search_part(
                 return Err(Refused(why, place));
             }
             Ok(Object::Leaf(next)) => {
-                let row = Mark {
-                    label: place,
-                    size: next - at - label::LABEL,
-                    depth: DEPTHS + 1 - left,
-                    outermost: top,
-                };
-                seen = seen.with_row(k, row);
+                if seen.rows == k {
+                    seen.mark = Some(Mark {
+                        label: place,
+                        size: next - at - label::LABEL,
+                        depth: DEPTHS + 1 - left,
+                        outermost: top,
+                    });
+                }
+                seen.rows += 1;
                 at = next;
             }
             Ok(Object::Group(end)) => {

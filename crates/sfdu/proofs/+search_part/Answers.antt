@@ -1,14 +1,17 @@
 -- `sfdu::search_part` meets its contract: each arm is one law of `Nested`, and what an arm knows of its object is `leaf` or `group`.
 use Prim.Native.Nat.{ℕ, ◌+◌, ◌-◌}
 use native.Mathlib.Omega.{arith}
-use mathlib.Core.Path.{ap, sym, subst}
+use mathlib.Core.Path.{◌∙◌, ap, sym, subst}
 use mathlib.Core.Bool.{true, false}
 use Rattle.std.specs.Prelude.{Ok}
 use Rattle.std.proofs.lemmas.Result.{err_from_is_err_and}
 use Rattle.sfdu.specs.Private.{ObjectAt, Stands}
+use Rattle.sfdu.specs.Row.{Row}
+use Rattle.sfdu.specs.declared.Seen.{Seen}
+use Rattle.sfdu.proofs.Seeing.{row_is_seen, row_is_passed}
 use Rattle.sfdu.proofs.Nested.{Sofar, starts, no_bytes, deepest, ends, faulty, leaf_more, group_passed, group_faulty}
 use Rattle.sfdu.proofs.+search_part.Goals as goal
-use Rattle.sfdu.proofs.+search_part.Goals.{In-Ok-Group, In-Ok-Leaf}
+use Rattle.sfdu.proofs.+search_part.Goals.{In-Ok-Group, In-Ok-Leaf, else-seen-k, then-seen-k}
 
 leaf : (t : ℕ) (c : In-Ok-Leaf t)
     → ObjectAt c.args.versions c.args.part.now c.loop-at.at false c.in-Ok-Leaf.next
@@ -38,10 +41,15 @@ pub loop-at-preserved-in-Ok-Leaf : goal.loop-at-preserved-in-Ok-Leaf
 loop-at-preserved-in-Ok-Leaf t c =
     let w = c.loop-at in
     let a = c.args in
-    subst (Sofar a.versions a.part.now _ _ _ _ _ c.in-Ok-Leaf.next) (sym c.with_row-seen.ensures)
-    (leaf_more a.versions a.part.now _ _ _ _ _ w.at w.seen w.invariant c.loop-at-test.true _
-    (leaf t (goal.at.loop-at-preserved-in-Ok-Leaf t c).In-Ok-Leaf) _
-    (ap (λ (top : ℕ). record { label = a.base + w.at; size = c.in-Ok-Leaf.next - w.at - 20; depth = 9 - a.left; outermost = top }) c.unwrap_or-top.ensures))
+    let row : Row = record { label = a.base + w.at; size = c.in-Ok-Leaf.next - w.at - 20; depth = 9 - a.left; outermost = c.unwrap_or-top.result } in
+    let more = leaf_more a.versions a.part.now _ _ _ a.k _ w.at w.seen w.invariant c.loop-at-test.true _
+    (leaf t (goal.at.loop-at-preserved-in-Ok-Leaf t c).In-Ok-Leaf) row
+    (ap (λ (top : ℕ). record { label = a.base + w.at; size = c.in-Ok-Leaf.next - w.at - 20; depth = 9 - a.left; outermost = top }) c.unwrap_or-top.ensures) in
+    let one_more : Seen → Seen = λ s. record { rows = s.rows + 1; mark = s.mark } in
+    elim c.if-seen-k.branch [
+      | then-seen-k b ↦ subst (Sofar a.versions a.part.now _ _ _ _ _ c.in-Ok-Leaf.next) (sym (row_is_seen a.k w.seen row b.if-seen-k.true) ∙ ap one_more (sym b.seen-is)) more
+      | else-seen-k b ↦ subst (Sofar a.versions a.part.now _ _ _ _ _ c.in-Ok-Leaf.next) (sym (row_is_passed a.k w.seen row b.if-seen-k.false) ∙ ap one_more (sym b.seen-is)) more
+    ]
 
 pub returns-in_err-seen-in-Ok-Group : goal.returns-in_err-seen-in-Ok-Group
 returns-in_err-seen-in-Ok-Group t c =
