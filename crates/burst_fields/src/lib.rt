@@ -56,10 +56,10 @@ fn content(file: &[u8], stored: Storage, part: Part) -> Value
 {
     let at = part.place;
     match stored {
-        Storage::Unsigned => Value::Unsigned(little::four_at(file, at)),
-        Storage::Signed => Value::Signed(signed(little::four_at(file, at))),
-        Storage::Float4 => Value::Float4(little::four_at(file, at)),
-        Storage::Float8 => Value::Float8(little::eight_at(file, at)),
+        Storage::Unsigned => Value::Unsigned(little::four_at(file, at).unwrap()),
+        Storage::Signed => Value::Signed(signed(little::four_at(file, at).unwrap())),
+        Storage::Float4 => Value::Float4(little::four_at(file, at).unwrap()),
+        Storage::Float8 => Value::Float8(little::eight_at(file, at).unwrap()),
         Storage::Text => Value::Text(part),
     }
 }

@@ -48,8 +48,8 @@ impl FixedRows for Bursts {
         RECORD
     }
 
-    fn row_start(self, k: usize) -> usize {
-        self.first + RECORD * k
+    fn bytes_before(self, k: u32) -> usize {
+        RECORD * k as usize
     }
 }
 

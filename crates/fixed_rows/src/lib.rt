@@ -7,11 +7,11 @@
 
 ghost use Rattle.answer.specs.Told.{told};
 ghost use Rattle.answer.specs.Size.{largest_file};
-ghost use Rattle.std.specs.Prelude.{◌≡◌, ◌≤◌, ◌<◌, drop, length, IfOk};
+ghost use Rattle.std.specs.Prelude.{◌≡◌, ◌*◌, ◌≤◌, ◌<◌, drop, length, IfOk};
 ghost use Rattle.fixed_rows.specs.Shape.{Shape, step, row_at};
 ghost use Rattle.fixed_rows.specs.Check.{count_rows};
 ghost use Rattle.fixed_rows.specs.Read.{passing, find_row};
-ghost use Rattle.fixed_rows.specs.Jump.{start_of, jump_to};
+ghost use Rattle.fixed_rows.specs.Jump.{jump_to};
 ghost use Rattle.fixed_rows.specs.From.{starts, row_from};
 
 use answer::{Refusal, Refused, Shown};
@@ -31,10 +31,9 @@ pub trait FixedRows: Copy {
     fn size(self) -> usize
         ensures { result ≡ (shape self).size };
 
-    // Where row `k` starts, computed.
-    fn row_start(self, k: usize) -> usize
-        requires { start_of (shape self).first (step (shape self)) k ≤ 9223372036854775807 }
-        ensures { result ≡ start_of (shape self).first (step (shape self)) k };
+    // The bytes of the `k` rows in front of row `k`, computed. A file has fewer than 2^32 rows.
+    fn bytes_before(self, k: u32) -> usize
+        ensures { result ≡ step (shape self) * k };
 
     // Rows take bytes, no more than a file may have.
     ghost takes_bytes: { (r : Self) → 0 < step (shape r) };
@@ -108,7 +107,7 @@ pub fn jump_to<R: FixedRows>(rows: R, file: &[u8], k: usize) -> Result<Shown, Re
     ensures { told result ≡ jump_to (R.shape rows) file.now k }
 {
     if k < count(rows, file)? {
-        return Ok(shown_at(rows, rows.row_start(k)));
+        return Ok(shown_at(rows, rows.first() + rows.bytes_before(k as u32)));
     }
     Err(Refused(Refusal::NoRow, 0))
 }

@@ -1,13 +1,15 @@
 -- The entries of a record and their bytes, four to each: one gives the other back.
-use Prim.Native.Nat.{ℕ, zero, suc, ◌+◌, ◌*◌, ◌^◌, ◌<◌}
+use Prim.Native.Nat.{ℕ, zero, suc, ◌*◌, ◌^◌, ◌<◌, ◌≤◌}
 use native.Mathlib.Omega.{arith}
 use mathlib.Core.Path.{◌≡◌, refl, ◌∙◌, sym, ap, ap₂}
 use mathlib.Core.List.{List, [], ◌∷◌, ◌++◌}
 use lib.ListN.{length, get_or, take, drop, length-drop, take-append-drop}
-use lib.Seq.{drop-drop, length-take-le}
-use Rattle.answer.specs.Window.{bytes_at}
+use lib.Seq.{length-take-le}
+use Rattle.std.specs.Prelude.{slice_get, Some, None}
+use Rattle.std.specs.Int.{from_le_bytes, w32}
+use Rattle.std.specs.Simd.{first_chunks}
 use Rattle.little.specs.LittleEndian.{le, le_number, Below}
-use Rattle.little.proofs.LittleEndian.{number_of_bytes, bytes_of_number, below_in_the_front, below_in_the_rest}
+use Rattle.little.proofs.LittleEndian.{four_are_a_number, number_of_bytes, bytes_of_number, below_in_the_front, below_in_the_rest}
 use Rattle.house_record.specs.Record.{entry_bytes, entries_of}
 
 pub length_entry_bytes : (xs : List ℕ) → length (entry_bytes xs) ≡ 4 * length xs
@@ -33,11 +35,19 @@ bytes_of_entries (suc n) s h b =
     (bytes_of_entries n (drop 4 s) (length-drop 4 s ∙ omega arith) (below_in_the_rest 256 4 s b))
     ∙ take-append-drop 4 s
 
--- entry i
-pub entry_at : (n i : ℕ) (s : List ℕ) → i < n → get_or (entries_of n s) i 0 ≡ le_number (bytes_at s (4 * i) 4)
-entry_at zero i s h = absurd (omega arith)
-entry_at (suc n) zero s h = refl
-entry_at (suc n) (suc i) s h =
-    let further : 4 + 4 * i ≡ 4 * suc i = omega arith in
-    entry_at n i (drop 4 s) (omega arith)
-    ∙ ap (λ (r : List ℕ). le_number (take 4 r)) (drop-drop (4 * i) 4 s ∙ ap (λ (k : ℕ). drop k s) further)
+-- the number of the four bytes that are cut off as number i is entry i
+pub entry_of_four : (n i : ℕ) (s : List ℕ) → i < n → 4 * n ≤ length s → from_le_bytes w32 (get_or (first_chunks 4 n s) i []) ≡ get_or (entries_of n s) i 0
+entry_of_four zero i s h long = absurd (omega arith)
+entry_of_four (suc n) zero s h long = four_are_a_number (take 4 s) (length-take-le 4 s (omega (arith, long)))
+entry_of_four (suc n) (suc i) s h long = entry_of_four n i (drop 4 s) (omega arith) (omega (arith, long, length-drop 4 s))
+
+-- an entry asked for by its number, where there is such a one and where there is none
+pub entry_there : (n i : ℕ) (s : List ℕ) → i < n → 4 * n ≤ length s → slice_get (entries_of n s) i ≡ Some (from_le_bytes w32 (get_or (first_chunks 4 n s) i []))
+entry_there zero i s h long = absurd (omega arith)
+entry_there (suc n) zero s h long = ap Some (sym (four_are_a_number (take 4 s) (length-take-le 4 s (omega (arith, long)))))
+entry_there (suc n) (suc i) s h long = entry_there n i (drop 4 s) (omega arith) (omega (arith, long, length-drop 4 s))
+
+pub no_such_entry : (n i : ℕ) (s : List ℕ) → n ≤ i → slice_get (entries_of n s) i ≡ None
+no_such_entry zero i s h = refl
+no_such_entry (suc n) zero s h = absurd (omega arith)
+no_such_entry (suc n) (suc i) s h = no_such_entry n i (drop 4 s) (omega arith)

@@ -27,10 +27,7 @@ pub struct Kind {
 pub fn number_at(bytes: &[u8], at: usize) -> u32
     ensures { result ≡ number_at bytes.now at }
 {
-    if bytes.len() < 4 || bytes.len() - 4 < at {
-        return 0;
-    }
-    little::four_at(bytes, at)
+    little::four_at(bytes, at).unwrap_or(0)
 }
 
 // Whether these bytes are a whole record of this kind.
@@ -39,8 +36,8 @@ pub fn is_record(kind: Kind, bytes: &[u8]) -> bool
 {
     FRONT <= bytes.len()
         && kind.between <= bytes.len() - FRONT
-        && little::four_at(bytes, 0) as usize == bytes.len() - 4
-        && little::two_at(bytes, 4) == kind.number
+        && number_at(bytes, 0) as usize == bytes.len() - 4
+        && little::two_at(bytes, 4) == Some(kind.number)
         && (bytes.len() - FRONT - kind.between) % 4 == 0
 }
 
@@ -49,9 +46,10 @@ fn take_entries(bytes: &[u8], list: &mut [u32])
     requires { length bytes.now ≡ 4 * length list.old }
     ensures { list.new ≡ entries_of (length list.old) bytes.now }
 {
+    let (fours, _) = bytes.as_chunks::<4>();
     // By place: of values behind a `zip` of `iter_mut` std promises nothing.
     for (i, entry) in list.iter_mut().enumerate() {
-        *entry = little::four_at(bytes, 4 * i);
+        *entry = u32::from_le_bytes(fours[i]);
     }
 }
 
@@ -74,19 +72,13 @@ pub fn load(kind: Kind, bytes: &[u8], list: &mut [u32]) -> Result<usize, Refused
     Ok(count)
 }
 
-// What stands in front of a record's entries: its length, how many bytes follow it, its kind, and what
-// this kind has between the kind and the entries.
-pub fn front<const N: usize>(follows: u32, kind: Kind, between: &[u8]) -> [u8; N]
-    requires { N ≡ 6 + length between.now }
-    ensures { result ≡ le 4 follows ++ (le 2 kind.number ++ between.now) }
+// The front of a record: its length, how many bytes follow it, and its kind.
+pub fn front(follows: u32, kind: Kind) -> [u8; FRONT]
+    ensures { result ≡ le 4 follows ++ le 2 kind.number }
 {
-    let mut bytes = [0; N];
-    // Parts are lent of a slice: of an array whose length is a parameter none are.
-    let whole = &mut bytes[..];
-    whole[..4].copy_from_slice(&little::bytes_of(follows));
-    whole[4..FRONT].copy_from_slice(&little::bytes_of(kind.number)[..2]);
-    whole[FRONT..].copy_from_slice(between);
-    bytes
+    let [a, b, c, d] = little::bytes_of(follows);
+    let [low, high, ..] = little::bytes_of(kind.number);
+    [a, b, c, d, low, high]
 }
 
 // Writes a record in two pieces, what stands in front of its entries and then their bytes, to the front

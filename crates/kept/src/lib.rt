@@ -46,8 +46,7 @@ pub fn keep(list: &[u32], out: &mut [u8]) -> Result<usize, Refused>
     if out.len() < size {
         return Err(Refused(Refusal::Small, 0));
     }
-    let front: [u8; house_record::FRONT] = house_record::front(follows as u32, KIND, &[]);
-    out[..house_record::FRONT].copy_from_slice(&front);
+    out[..house_record::FRONT].copy_from_slice(&house_record::front(follows as u32, KIND));
     put_entries(list, &mut out[house_record::FRONT..size]);
     Ok(size)
 }

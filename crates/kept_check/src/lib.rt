@@ -30,9 +30,9 @@ impl IndexList for Entries<'_> {
         self.bytes.len() / 4
     }
 
-    #[tactic(auto, using(house_record::proofs::Entries::length_entries, house_record::proofs::Entries::entry_at))]
-    fn entry(self, i: usize) -> usize {
-        little::four_at(self.bytes, 4 * i) as usize
+    fn entry(self, i: usize) -> Option<usize> {
+        let (fours, _) = self.bytes.as_chunks::<4>();
+        Some(u32::from_le_bytes(*fours.get(i)?) as usize)
     }
 }
 
@@ -82,10 +82,8 @@ pub fn to_kind_2(
 {
     let rows = rows_borne_out(versions, file, kept::KIND, kept)?;
     let follows = house_record::number_at(kept, 0) + 4;
-    let front: [u8; kept_rows::ENTRIES] = house_record::front(
-        follows,
-        kept_rows::KIND,
-        &little::bytes_of(rows as u32),
-    );
+    let mut front = [0; kept_rows::ENTRIES];
+    front[..house_record::FRONT].copy_from_slice(&house_record::front(follows, kept_rows::KIND));
+    front[house_record::FRONT..].copy_from_slice(&little::bytes_of(rows as u32));
     house_record::put(&front, &kept[house_record::FRONT..], out)
 }

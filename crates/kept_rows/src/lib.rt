@@ -56,6 +56,6 @@ pub fn to_kind_1(kept: &[u8], out: &mut [u8]) -> Result<usize, Refused>
         return Err(Refused(Refusal::BadKept, 0));
     }
     let follows = house_record::number_at(kept, 0) - 4;
-    let front: [u8; house_record::FRONT] = house_record::front(follows, kept::KIND, &[]);
+    let front = house_record::front(follows, kept::KIND);
     house_record::put(&front, &kept[ENTRIES..], out)
 }

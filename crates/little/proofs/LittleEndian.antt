@@ -6,6 +6,7 @@ use native.Mathlib.Omega.{arith}
 use mathlib.Core.Path.{◌≡◌, refl, ◌∙◌, ap, ap₂}
 use mathlib.Core.List.{List, [], ◌∷◌}
 use lib.ListN.{length, get_or, take, drop}
+use Rattle.std.specs.Int.{from_le_bytes, w32}
 use Rattle.little.specs.LittleEndian.{le, le_number, Below}
 
 -- the bytes of a number are that number
@@ -19,6 +20,15 @@ bytes_of_number [] h = refl
 bytes_of_number (b ∷ bs) h =
     ap₂ ◌∷◌ (omega (arith, h.0))
     (ap (le (length bs)) (omega (arith, h.0)) ∙ bytes_of_number bs h.1)
+
+-- the library's number of four bytes is theirs
+pub four_are_a_number : (bs : List ℕ) → length bs ≡ 4 → from_le_bytes w32 bs ≡ le_number bs
+four_are_a_number [] h = absurd (omega arith)
+four_are_a_number (a ∷ []) h = absurd (omega arith)
+four_are_a_number (a ∷ b ∷ []) h = absurd (omega arith)
+four_are_a_number (a ∷ b ∷ c ∷ []) h = absurd (omega arith)
+four_are_a_number (a ∷ b ∷ c ∷ d ∷ []) h = omega arith
+four_are_a_number (a ∷ b ∷ c ∷ d ∷ e ∷ bs) h = absurd (omega arith)
 
 -- numbers that are below a limit wherever they stand: what is known of a lent slice, by its type
 pub each_below : (m : ℕ) (xs : List ℕ) → ((i : ℕ) → i < length xs → get_or xs i 0 < m) → Below m xs

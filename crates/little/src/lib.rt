@@ -3,9 +3,8 @@
 // above. (Bytes and a place in them stay two parameters: the callers have many places in the same bytes.)
 #![tactic(auto)]
 
-ghost use Rattle.std.specs.Prelude.{◌≡◌, ◌+◌, ◌<◌, ◌≤◌, [], ◌∷◌, length};
-ghost use Rattle.answer.specs.Window.{bytes_at};
-ghost use Rattle.little.specs.LittleEndian.{le, le_number};
+ghost use Rattle.std.specs.Prelude.{◌≡◌, ◌<◌, [], ◌∷◌};
+ghost use Rattle.little.specs.LittleEndian.{le, le_number, number_in};
 
 // The number that two bytes are.
 pub fn two(a: u8, b: u8) -> u32
@@ -21,38 +20,28 @@ pub fn four(a: u8, b: u8, c: u8, d: u8) -> u32
     u32::from_le_bytes([a, b, c, d])
 }
 
-// The N bytes from place `at` on.
-fn array_at<const N: usize>(bytes: &[u8], at: usize) -> [u8; N]
-    requires { at + N ≤ length bytes.now }
-    ensures { result ≡ bytes_at bytes.now at N }
+// The number in the two bytes from place `at` on; none where not both are there.
+pub fn two_at(bytes: &[u8], at: usize) -> Option<u32>
+    ensures { result ≡ number_in 2 bytes.now at }
 {
-    let mut part = [0; N];
-    part.copy_from_slice(&bytes[at..at + N]);
-    part
+    let two = bytes.get(at..)?.first_chunk()?;
+    Some(u32::from(u16::from_le_bytes(*two)))
 }
 
-// The number in the two bytes from place `at` on.
-pub fn two_at(bytes: &[u8], at: usize) -> u32
-    requires { at + 2 ≤ length bytes.now }
-    ensures { result ≡ le_number (bytes_at bytes.now at 2) }
+// The number in the four bytes from place `at` on; none where not all four are there.
+pub fn four_at(bytes: &[u8], at: usize) -> Option<u32>
+    ensures { result ≡ number_in 4 bytes.now at }
 {
-    u32::from(u16::from_le_bytes(array_at(bytes, at)))
+    let four = bytes.get(at..)?.first_chunk()?;
+    Some(u32::from_le_bytes(*four))
 }
 
-// The number in the four bytes from place `at` on.
-pub fn four_at(bytes: &[u8], at: usize) -> u32
-    requires { at + 4 ≤ length bytes.now }
-    ensures { result ≡ le_number (bytes_at bytes.now at 4) }
+// The number in the eight bytes from place `at` on; none where not all eight are there.
+pub fn eight_at(bytes: &[u8], at: usize) -> Option<u64>
+    ensures { result ≡ number_in 8 bytes.now at }
 {
-    u32::from_le_bytes(array_at(bytes, at))
-}
-
-// The number in the eight bytes from place `at` on.
-pub fn eight_at(bytes: &[u8], at: usize) -> u64
-    requires { at + 8 ≤ length bytes.now }
-    ensures { result ≡ le_number (bytes_at bytes.now at 8) }
-{
-    u64::from_le_bytes(array_at(bytes, at))
+    let eight = bytes.get(at..)?.first_chunk()?;
+    Some(u64::from_le_bytes(*eight))
 }
 
 // The four bytes of a number.

@@ -1,5 +1,5 @@
 -- The builder and the check of an index, in their code's own terms: the loops' invariants, and each answer case by case.
-use Prim.Native.Nat.{ℕ, suc, ◌+◌, ◌/◌, ◌≤◌, ◌<◌}
+use Prim.Native.Nat.{ℕ, zero, suc, ◌+◌, ◌/◌, ◌≤◌, ◌<◌}
 use native.Mathlib.Numerals.{add-one}
 use native.Mathlib.Omega.{arith}
 use mathlib.Core.Path.{◌≡◌, refl, ◌∙◌, sym, ap, ap₂}
@@ -9,6 +9,8 @@ use lib.ListN.{length, get_or, set, drop, drop_of_length-le}
 use lib.Seq.{drop-cons}
 use lib.Dec.{eqb}
 use borrow.Author.Tests.{le-leb, lt-leb, eq-eqb, ne_eqb}
+use Rattle.std.specs.Prelude.{slice_get, Some}
+use Rattle.std.specs.Option.{option_eq}
 use Rattle.label.specs.declared.Versions.{Versions}
 use Rattle.answer.specs.Outcome.{Outcome, answer, refuse, need, and_then, mapped}
 use Rattle.answer.specs.Filled.{filled}
@@ -27,6 +29,12 @@ same_step : (xs ys : List ℕ) (i : ℕ) → i < length xs → i < length ys
 same_step xs ys i h k =
     ap₂ same (drop-cons xs i 0 h) (drop-cons ys i 0 k)
     ∙ ap (λ (n : ℕ). eqb (get_or xs i 0) (get_or ys i 0) && same (drop n xs) (drop n ys)) (sym (add-one i))
+
+-- an entry that is there, asked for and compared
+pub compared : (xs : List ℕ) (i place : ℕ) → i < length xs → option_eq eqb (slice_get xs i) (Some place) ≡ eqb (get_or xs i 0) place
+compared [] i place h = absurd (omega arith)
+compared (x ∷ xs) zero place h = refl
+compared (x ∷ xs) (suc i) place h = compared xs i place (omega arith)
 
 -- lists of different lengths are not the same
 pub lengths_differ : (xs ys : List ℕ) → (length xs ≡ length ys → ⊥) → same xs ys ≡ false

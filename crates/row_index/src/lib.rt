@@ -5,7 +5,7 @@
 #![tactic(auto)]
 
 ghost use Rattle.answer.specs.Told.{told};
-ghost use Rattle.std.specs.Prelude.{◌≡◌, ℕ, ◌+◌, ◌/◌, ◌≤◌, ◌<◌, List, ◌++◌, length, take, drop, get_or};
+ghost use Rattle.std.specs.Prelude.{◌≡◌, ℕ, ◌+◌, ◌/◌, ◌≤◌, ◌<◌, List, ◌++◌, length, take, drop, slice_get};
 ghost use Rattle.answer.specs.Outcome.{and_then, mapped};
 ghost use Rattle.answer.specs.Size.{largest_file};
 ghost use Rattle.answer.specs.Filled.{filled};
@@ -36,10 +36,9 @@ pub trait IndexList: Copy {
     fn count(self) -> usize
         ensures { result ≡ length (entries self) };
 
-    // Entry `i`.
-    fn entry(self, i: usize) -> usize
-        requires { i < length (entries self) }
-        ensures { result ≡ get_or (entries self) i 0 };
+    // Entry `i`; none past the end.
+    fn entry(self, i: usize) -> Option<usize>
+        ensures { result ≡ slice_get (entries self) i };
 }
 
 impl IndexList for &[u32] {
@@ -49,8 +48,8 @@ impl IndexList for &[u32] {
         self.len()
     }
 
-    fn entry(self, i: usize) -> usize {
-        self[i] as usize
+    fn entry(self, i: usize) -> Option<usize> {
+        Some(*self.get(i)? as usize)
     }
 }
 
@@ -107,7 +106,7 @@ fn entries_agree<E: IndexList>(versions: Versions, file: &[u8], list: E) -> bool
     // By index: a list that stands in bytes has no iterator of its own.
     for i in 0..list.count() {
         let place = entry_from(versions, file, from, leaves);
-        if list.entry(i) != place {
+        if list.entry(i) != Some(place) {
             return false;
         }
         from = place;

@@ -48,7 +48,8 @@ impl FixedRows for Waveform {
     // 2,080·k by shifts and sums, as 2,080 is 2,048 and 32. The prefixes of 64 rows are 2,048 bytes, as many as one row's
     // samples, so in front of row `k` there are `parts` of 2,048 bytes and `left` prefixes of 32. The compiler would join
     // `(k << 11) + (k << 5)` into one multiply (docs/landings/04-shifts.md).
-    fn row_start(self, k: usize) -> usize {
+    fn bytes_before(self, k: u32) -> usize {
+        let k = k as usize;
         let parts = k + (k >> 6);
         let left = k % 64;
         (parts << 11) + (left << 5)

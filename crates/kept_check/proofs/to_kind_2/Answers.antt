@@ -19,5 +19,5 @@ slice_bounds-put-start c = omega (arith, sizes_there c.args.versions c.args.file
 pub returns : goal.returns
 returns c =
     let a = c.args in
-    put_there a.versions _ c.number_at-follows.result c.front-front.result a.file.now a.kept.now a.out.now _ _ c.in_ok-rows.ensures
+    put_there a.versions _ c.number_at-follows.result _ a.file.now a.kept.now a.out.now _ _ c.in_ok-rows.ensures
     (λ i. omega (arith, c.type_inv.kept i)) c.number_at-follows.ensures (search rules) c.put.ensures
