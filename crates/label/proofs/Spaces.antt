@@ -1,6 +1,7 @@
 -- The length field's rule in version 1: exactly the fields of spaces and then digits, one digit at least, are read, and as what they say
 -- (`padded_is_read`, `read_is_padded`).
-use Prim.Native.Nat.{ℕ, zero, suc, ◌+◌, ◌<◌, ◌≤◌}
+use Prim.Native.Nat.{ℕ, zero, suc, ◌+◌, ◌^◌, ◌<◌, ◌≤◌}
+use native.Mathlib.Nat.{pow-zero}
 use native.Mathlib.Omega.{arith}
 use mathlib.Core.Path.{◌≡◌, refl, ◌∙◌, sym, ap, ap₂}
 use mathlib.Core.Bool.{Bool, true, false, not, cond}
@@ -9,7 +10,7 @@ use Rattle.std.specs.Prelude.{Option, None, Some, position, unwrap_or}
 use Rattle.std.specs.List.{position_or_len}
 use Rattle.std.proofs.lemmas.List.Recursion.{is_position_or_len}
 use Rattle.std.proofs.lemmas.List.Sums.{prefix_len-le-length}
-use lib.ListN.{length, drop, replicate, length-replicate}
+use lib.ListN.{length, drop, replicate, length-replicate, length-drop}
 use lib.Seq.{drop_at}
 use lib.Dec.{eqb}
 use borrow.Author.Tests.{ne_eqb, eqb-true}
@@ -25,6 +26,15 @@ no_space_in_front b bs h = ap (λ (t : Bool). one_more t (spaces_in bs)) (ne_eqb
 some_bytes : (xs : List ℕ) → 0 < length xs → number_in xs ≡ decimal 0 xs
 some_bytes [] h = absurd (omega arith)
 some_bytes (b ∷ bs) h = refl
+
+-- a number is begun with 0
+pub number_starts : (from : ℕ) (xs : List ℕ) → from < length xs → number_in (drop from xs) ≡ decimal 0 (drop from xs)
+number_starts from xs h = some_bytes (drop from xs) (omega (arith, h, length-drop from xs))
+
+-- so a bound by a power of ten holds of 0
+pub tens : (k : ℕ) → 0 < 10 ^ k
+tens zero = omega (arith, pow-zero 10)
+tens (suc k) = omega (arith, tens k)
 
 -- ---- spaces are counted by the place of the first byte that is none
 
