@@ -10,7 +10,6 @@
 
 ghost use Rattle.answer.specs.Told.{told};
 ghost use Rattle.std.specs.Prelude.{◌≡◌};
-ghost use Rattle.std.proofs.Common.{rules};
 ghost use Rattle.fixed_rows.specs.Check.{count_rows};
 ghost use Rattle.fixed_rows.specs.Read.{find_row};
 ghost use Rattle.fixed_rows.specs.Jump.{jump_to};
@@ -32,10 +31,6 @@ struct Bursts {
 impl FixedRows for Bursts {
     ghost shape = { λ b. bursts b.first };
 
-    ghost takes_bytes = { Prim.search rules };
-
-    ghost is_small = { Prim.search rules };
-
     fn first(self) -> usize {
         self.first
     }
@@ -44,7 +39,7 @@ impl FixedRows for Bursts {
         0
     }
 
-    fn size(self) -> usize {
+    fn step(self) -> usize {
         RECORD
     }
 

@@ -1,3 +1,5 @@
+pub mod Dividing
+pub mod Ends
 pub mod Passing
 pub mod Accepted
 pub mod JumpIsRead

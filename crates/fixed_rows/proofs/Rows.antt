@@ -26,7 +26,7 @@ pub record Found (first step : ℕ) (f : List ℕ) (k p : ℕ) : Type 0 where
   pub start : p ≡ start_of first step k
 
 -- k rows and one more are no more than n rows
-one_more_row : (step : ℕ) (k n : ℕ) → k < n → step * k + step ≤ step * n
+pub one_more_row : (step : ℕ) (k n : ℕ) → k < n → step * k + step ≤ step * n
 one_more_row step k n h = omega (arith, mul-suc step k, mul-le-mul_left step h)
 
 module _ (first step : ℕ) (f : List ℕ) (k : ℕ) where

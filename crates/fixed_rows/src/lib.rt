@@ -7,7 +7,7 @@
 
 ghost use Rattle.answer.specs.Told.{told};
 ghost use Rattle.answer.specs.Size.{largest_file};
-ghost use Rattle.std.specs.Prelude.{◌≡◌, ◌*◌, ◌≤◌, ◌<◌, drop, length, IfOk};
+ghost use Rattle.std.specs.Prelude.{◌≡◌, ◌*◌, ◌+◌, ◌%◌, ◌≤◌, ◌<◌, drop, length, IfOk};
 ghost use Rattle.fixed_rows.specs.Shape.{Shape, step, row_at};
 ghost use Rattle.fixed_rows.specs.Check.{count_rows};
 ghost use Rattle.fixed_rows.specs.Read.{passing, find_row};
@@ -24,31 +24,30 @@ pub trait FixedRows: Copy {
     fn first(self) -> usize
         ensures { result ≡ (shape self).first };
 
-    // The bytes of a row that are passed over in front, and those behind them, which are shown.
+    // The bytes of a row that are passed over in front; behind them stand those that are shown.
     fn skip(self) -> usize
         ensures { result ≡ (shape self).skip };
 
-    fn size(self) -> usize
-        ensures { result ≡ (shape self).size };
+    // All bytes of a row: from the start of one to the start of the next.
+    fn step(self) -> usize
+        ensures { result ≡ step (shape self) };
 
-    // The bytes of the `k` rows in front of row `k`, computed. A file has fewer than 2^32 rows.
+    // The bytes of the `k` rows in front of row `k`, computed, where they are a number of 64 bits. (A file has
+    // fewer than 2^32 rows.)
     fn bytes_before(self, k: u32) -> usize
-        ensures { result ≡ step (shape self) * k };
-
-    // Rows take bytes, no more than a file may have.
-    ghost takes_bytes: { (r : Self) → 0 < step (shape r) };
-
-    ghost is_small: { (r : Self) → step (shape r) ≤ largest_file };
+        ensures { step (shape self) * k ≤ 18446744073709551615 → result ≡ step (shape self) * k };
 }
 
-// From the start of one row's bytes to the start of the next.
-fn step<R: FixedRows>(rows: R) -> usize
-    ensures { result ≡ step (R.shape rows) }
+// What is left of so many bytes behind whole rows of `step`: of rows of 0 bytes all.
+#[tactic(auto, using(crate::proofs::Dividing::none_taken))]
+fn left(bytes: usize, step: usize) -> usize
+    ensures { result ≡ bytes % step }
 {
-    rows.skip() + rows.size()
+    bytes.checked_rem(step).unwrap_or(bytes)
 }
 
-// The number of rows: 14, 16, 12.
+// The number of rows: 14, 16, 12. There are no rows of 0 bytes: no byte divides into them.
+#[tactic(auto, using(crate::proofs::Dividing::no_rows))]
 pub fn count<R: FixedRows>(rows: R, file: &[u8]) -> Result<usize, Refused>
     ensures { told result ≡ count_rows (R.shape rows) file.now }
 {
@@ -59,10 +58,10 @@ pub fn count<R: FixedRows>(rows: R, file: &[u8]) -> Result<usize, Refused>
         return Err(Refused(Refusal::BadStart, 0));
     }
     let rest = file.len() - rows.first();
-    if rest % step(rows) != 0 {
+    if left(rest, rows.step()) != 0 {
         return Err(Refused(Refusal::Ragged, 0));
     }
-    Ok(rest / step(rows))
+    Ok(rest.checked_div(rows.step()).unwrap_or(0))
 }
 
 // Passes `k` rows from the first place on; 6 where no bytes are left. So the row found stands in front of bytes.
@@ -76,24 +75,25 @@ fn pass<R: FixedRows>(rows: R, file: &[u8], k: usize) -> Result<usize, Refused>
         return Err(Refused(Refusal::NoRow, 0));
     }
     for _ in 0..k {
-        if file.len() - at <= step(rows) {
+        if file.len() - at <= rows.step() {
             return Err(Refused(Refusal::NoRow, 0));
         }
-        at += step(rows);
+        at += rows.step();
     }
     Ok(at)
 }
 
-// What is shown of the row whose bytes start at `start`.
+// What is shown of the row whose bytes start at `start`, and end in a file.
 fn shown_at<R: FixedRows>(rows: R, start: usize) -> Shown
-    requires { start ≤ largest_file }
+    requires { start + step (R.shape rows) ≤ largest_file }
     ensures { result ≡ row_at (R.shape rows) start }
 {
-    answer::unlabelled(start + rows.skip(), rows.size())
+    answer::unlabelled(start + rows.skip(), rows.step() - rows.skip())
 }
 
 // Row `k`, found by passing the rows before it: 14, 16, 12, 6. (Kind, bytes and number stay parameters: no two
 // of them are one thing.)
+#[tactic(auto, using(crate::proofs::Ends::passed_ends_inside))]
 pub fn find_row<R: FixedRows>(rows: R, file: &[u8], k: usize) -> Result<Shown, Refused>
     ensures { told result ≡ find_row (R.shape rows) file.now k }
 {
@@ -103,6 +103,7 @@ pub fn find_row<R: FixedRows>(rows: R, file: &[u8], k: usize) -> Result<Shown, R
 
 // Row `k`, found by computing its place: 14, 16, 12, 6. It is asked first whether there is such a row, so
 // that no number wraps.
+#[tactic(auto, using(crate::proofs::Ends::jumped_ends_inside, crate::proofs::Ends::few_rows))]
 pub fn jump_to<R: FixedRows>(rows: R, file: &[u8], k: usize) -> Result<Shown, Refused>
     ensures { told result ≡ jump_to (R.shape rows) file.now k }
 {
@@ -116,10 +117,11 @@ pub fn jump_to<R: FixedRows>(rows: R, file: &[u8], k: usize) -> Result<Shown, Re
 fn row_starts<R: FixedRows>(rows: R, bytes: usize, from: usize) -> bool
     ensures { result ≡ starts (R.shape rows).first (step (R.shape rows)) bytes from }
 {
-    rows.first() <= from && from < bytes && (from - rows.first()) % step(rows) == 0
+    rows.first() <= from && from < bytes && left(from - rows.first(), rows.step()) == 0
 }
 
 // Going on: the row that starts at the place `from`: 14, 16, 12, and 6 where none does.
+#[tactic(auto, using(crate::proofs::Ends::begun_ends_inside))]
 pub fn row_from<R: FixedRows>(rows: R, file: &[u8], from: usize) -> Result<Shown, Refused>
     ensures { told result ≡ row_from (R.shape rows) file.now from }
 {

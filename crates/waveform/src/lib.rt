@@ -9,7 +9,6 @@
 
 ghost use Rattle.answer.specs.Told.{told};
 ghost use Rattle.std.specs.Prelude.{◌≡◌, ◌≢◌, ◌≤◌, nat_abs, pos};
-ghost use Rattle.std.proofs.Common.{rules};
 ghost use Rattle.fixed_rows.specs.Check.{count_rows};
 ghost use Rattle.fixed_rows.specs.Read.{find_row};
 ghost use Rattle.fixed_rows.specs.Jump.{jump_to};
@@ -27,10 +26,6 @@ struct Waveform;
 impl FixedRows for Waveform {
     ghost shape = { λ w. waveform };
 
-    ghost takes_bytes = { Prim.search rules };
-
-    ghost is_small = { Prim.search rules };
-
     fn first(self) -> usize {
         0
     }
@@ -40,9 +35,9 @@ impl FixedRows for Waveform {
         32
     }
 
-    // The samples.
-    fn size(self) -> usize {
-        2048
+    // The prefix and the samples.
+    fn step(self) -> usize {
+        2080
     }
 
     // 2,080·k by shifts and sums, as 2,080 is 2,048 and 32. The prefixes of 64 rows are 2,048 bytes, as many as one row's
