@@ -1,6 +1,7 @@
 pub mod Refusal
 pub mod Outcome
 pub mod Told
+pub mod Text
 pub mod Filled
 pub mod Nth
 pub mod Address

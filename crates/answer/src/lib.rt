@@ -3,8 +3,9 @@
 // carry". It knows no file format.
 #![tactic(auto)]
 
-ghost use Rattle.std.specs.Prelude.{◌≡◌};
+ghost use Rattle.std.specs.Prelude.{◌≡◌, Some};
 ghost use Rattle.answer.specs.Refusal.{number_of};
+ghost use Rattle.answer.specs.Text.{refused_text};
 ghost use Rattle.answer.specs.Address.{unlabelled as unlabelled_row};
 ghost use Rattle.answer.specs.Window.{fits, bytes_at};
 
@@ -67,6 +68,8 @@ impl Refusal {
 pub struct Refused(pub Refusal, pub usize);
 
 impl fmt::Display for Refused {
+    ghost output = { λ e. Some (refused_text e) };
+
     fn fmt<W: fmt::Write>(&self, f: &mut fmt::Formatter<W>) -> fmt::Result {
         write!(f, "refused {} {}", self.0.number(), self.1)
     }

@@ -5,10 +5,10 @@
 // that were read.
 #![tactic(auto)]
 
-ghost use Rattle.std.specs.Prelude.{◌≡◌, ◌<◌, length, take, IfOk, IfErr};
+ghost use Rattle.std.specs.Prelude.{◌≡◌, ◌<◌, length, take, Some, IfOk, IfErr};
 ghost use Rattle.std.specs.Counts.{IsPrefixLen};
 ghost use Rattle.std.specs.Io.KnownBytes.{Consumes, IsAtEnd};
-ghost use Rattle.input.specs.Read.{bytes_read};
+ghost use Rattle.input.specs.Read.{bytes_read, cut_text};
 
 use std::error::Error;
 use std::fmt;
@@ -19,6 +19,8 @@ use std::io::Read;
 pub struct Cut(pub usize);
 
 impl fmt::Display for Cut {
+    ghost output = { λ cut. Some (cut_text cut) };
+
     fn fmt<W: fmt::Write>(&self, f: &mut fmt::Formatter<W>) -> fmt::Result {
         write!(f, "a read failed after {} bytes", self.0)
     }
