@@ -22,7 +22,7 @@ pub enum Compression {
 }
 
 impl Compression {
-    // The mode's number.
+    // The mode's number. (The modes stand in the order of their numbers, which the clause holds.)
     pub fn number(self) -> usize
         ensures { result ≡ mode_number self }
     {
@@ -42,7 +42,8 @@ pub fn beams(mask: usize) -> Option<usize>
     Some(mask.count_ones() as usize)
 }
 
-// The compression mode with this number, where one has it. (Named by pages, and so no `TryFrom` in its place.)
+// The compression mode with this number, where one has it. (docs/AUDIT.md names it;
+// a `TryFrom` beside it would say the same twice.)
 pub fn mode(number: usize) -> Option<Compression>
     ensures { option_map mode_number result ≡ numbered number }
 {

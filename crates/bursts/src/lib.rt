@@ -4,8 +4,8 @@
 // `burst_fields`, windows of it to the reader.
 //
 // The caller vouches for the kind of the file and for the first place: nothing here looks into a
-// record. (The two stay parameters of the public calls, and the four calls stay beside the generic ones: pages
-// and C have them so.)
+// record. (Both are parameters of the C calls, and so of these. The four calls are the generic ones of `fixed_rows`:
+// docs/AUDIT.md names them, and so they stay.)
 #![tactic(auto)]
 
 ghost use Rattle.answer.specs.Told.{told};

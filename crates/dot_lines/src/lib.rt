@@ -65,11 +65,11 @@ fn cuts_from(x: usize, y: usize) -> usize
     )
 }
 
-// The bits of a word that the mask has, eight places lower. (By division, as the definition.)
+// The bits of a word that the mask has, eight places lower.
 fn masked(word: usize, mask: usize) -> usize
     ensures { (result ≡ bit_and (word / 256) mask) × (result ≤ mask) }
 {
-    (word / 256) & mask
+    (word >> 8) & mask
 }
 
 // Four times two bits, the first leftmost, as a byte. (Bits of a word, which the library has no type for.)

@@ -91,8 +91,8 @@ fn shown_at<R: FixedRows>(rows: R, start: usize) -> Shown
     answer::unlabelled(start + rows.skip(), rows.step() - rows.skip())
 }
 
-// Row `k`, found by passing the rows before it: 14, 16, 12, 6. (Kind, bytes and number stay parameters: no two
-// of them are one thing.)
+// Row `k`, found by passing the rows before it: 14, 16, 12, 6. (Three parameters: a struct of
+// two of them would be made for one call and be taken apart in it.)
 #[tactic(auto, using(crate::proofs::Ends::passed_ends_inside))]
 pub fn find_row<R: FixedRows>(rows: R, file: &[u8], k: usize) -> Result<Shown, Refused>
     ensures { told result ≡ find_row (R.shape rows) file.now k }

@@ -24,7 +24,7 @@ fn put_entries(list: &[u32], out: &mut [u8])
     requires { length out.old ≡ 4 * length list.now }
     ensures { out.new ≡ entry_bytes list.now }
 {
-    // By place: `chunks_exact_mut` promises nothing of what its parts end as, so its form has no proof.
+    // By place: neither `chunks_exact_mut` nor `as_chunks_mut` says what the slice ends as, so they have no proof.
     for (i, entry) in list.iter().enumerate() {
         let at = 4 * i;
         out[at..at + 4].copy_from_slice(&little::bytes_of(*entry));

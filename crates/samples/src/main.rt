@@ -18,6 +18,9 @@ use substitute::{Chosen, Source};
 // How many bytes a waveform row has.
 const ROW: usize = 2080;
 
+// (What is printed with and where from stay parameters here, as in std's own calls; so do an original and its
+// substitute, as in those of `substitute`.)
+
 // Prints bytes as they are.
 fn print(rt: &HostRuntime, bytes: &[u8]) -> io::Result<()> {
     io::writer(rt).write_all(bytes)

@@ -51,7 +51,8 @@ impl FixedRows for Waveform {
     }
 }
 
-// (These four calls are named by pages and by C, and so stay beside the generic ones.)
+// The four calls from here on are the generic ones of `fixed_rows`: docs/AUDIT.md names them, and so they stay.
+
 // The number of rows; 14 for a file that is too large, 12 for one that is not whole rows.
 pub fn check(file: &[u8]) -> Result<usize, Refused>
     ensures { told result ≡ count_rows waveform file.now }
