@@ -27,27 +27,27 @@ fn put_entries(entries: &[u32], list: &mut [u32])
     list[..entries.len()].copy_from_slice(entries);
 }
 
-// Writes the first entries that stand in the second file, `base` bytes behind their places in it: each
-// is found by a walk over the rows that are passed, from an entry of that file's own index.
+// Writes the entries that stand in the second file, `base` bytes behind their places in it, into a list
+// that has just as many: each is found by a walk over the rows that are passed, from an entry of that
+// file's own index.
 fn put_further(
     versions: Versions,
     base: usize,
     file: &[u8],
     index: &[u32],
     passed: usize,
-    entries: usize,
     list: &mut [u32],
 )
     requires { (base + length file.now ≤ largest_file) × (index.now ≡ the_index versions file.now) × (passed ≤ 15)
-        × (entries ≤ length (further versions base file.now passed)) × (entries ≤ length list.old) }
-    ensures { list.new ≡ take entries (further versions base file.now passed) ++ drop entries list.old }
+        × (length list.old ≡ length (further versions base file.now passed)) }
+    ensures { list.new ≡ further versions base file.now passed }
 {
-    // By index: the promise is of the whole list, which `list[..entries].iter_mut()` would take apart.
-    for i in 0..entries {
+    // By place: of what is written behind a `zip` with `iter_mut` std promises nothing.
+    for (i, entry) in list.iter_mut().enumerate() {
         let from = index[i] as usize;
         let place = row_index::entry_from(versions, file, from, passed);
         let moved = base + place;
-        list[i] = moved as u32;
+        *entry = moved as u32;
     }
 }
 
@@ -80,7 +80,6 @@ pub fn join_index(
     }
     let done = index.len();
     let passed = row_index::GROUP * done - rows;
-    let left = entries - done;
     put_entries(index, list);
     put_further(
         versions,
@@ -88,8 +87,7 @@ pub fn join_index(
         second,
         other,
         passed,
-        left,
-        &mut list[done..],
+        &mut list[done..entries],
     );
     Ok(Built { entries, rows: all })
 }

@@ -28,12 +28,13 @@ fn start_of(kind: Kind, file: &[u8], first: usize) -> Result<usize, Refused>
     Ok(row.part.place + row.part.count)
 }
 
-// Draws line `y`, of the `c` bytes at `place`, at byte `at` of `out`, which C lends.
-fn draw_row(file: &[u8], place: usize, c: usize, y: usize, at: usize, out: &mut [u8])
-    requires { (place + c ≤ length file.now) × (at + line_bytes c ≤ length out.old) }
-    ensures { out.new ≡ take at out.old ++ line y (bytes_at file.now place c) ++ drop (at + line_bytes c) out.old }
+// Draws line `y`, of the bytes of this part, from byte `at` of `out` on.
+fn draw_row(file: &[u8], part: Part, y: usize, at: usize, out: &mut [u8])
+    requires { (part.place + part.count ≤ length file.now) × (at + line_bytes part.count ≤ length out.old) }
+    ensures { out.new ≡ take at out.old ++ line y (bytes_at file.now part.place part.count)
+        ++ drop (at + line_bytes part.count) out.old }
 {
-    let samples = answer::bytes_of(file, Part { place, count: c });
+    let samples = answer::bytes_of(file, part);
     let _ = dot_lines::draw_line(samples, y, &mut out[at..]);
 }
 
@@ -79,10 +80,15 @@ impl<'a> Rows<'a> {
     {
         let bytes = dot_lines::line_bytes(self.window.count);
         let mut from = self.start;
+        // By number: `y` is also the row of the matrix, and of what is written to the parts that
+        // `chunks_exact_mut` lends std promises nothing.
         for y in 0..self.count {
             let row = reader::row_from(self.kind, self.file, from).unwrap();
-            let place = row.part.place + self.window.first;
-            draw_row(self.file, place, self.window.count, y, y * bytes, out);
+            let part = Part {
+                place: row.part.place + self.window.first,
+                count: self.window.count,
+            };
+            draw_row(self.file, part, y, y * bytes, out);
             from = row.part.place + row.part.count;
         }
     }

@@ -2,11 +2,11 @@
 use Prim.Native.Nat.{ℕ, zero, suc, ◌+◌, ◌/◌, ◌≤◌, ◌<◌}
 use native.Mathlib.Numerals.{add-one}
 use native.Mathlib.Omega.{arith}
-use mathlib.Core.Path.{◌≡◌, refl, ◌∙◌, sym, ap, ap₂}
+use mathlib.Core.Path.{◌≡◌, refl, ◌∙◌, sym, ap, ap₂, subst}
 use mathlib.Core.Bool.{Bool, true, false, ◌&&◌}
-use mathlib.Core.List.{List, [], ◌∷◌, ◌++◌}
+use mathlib.Core.List.{List, [], ◌∷◌, ◌++◌, append-nil}
 use lib.ListN.{length, get_or, set, drop, drop_of_length-le}
-use lib.Seq.{drop-cons}
+use lib.Seq.{drop-cons, take_all}
 use lib.Dec.{eqb}
 use borrow.Author.Tests.{le-leb, lt-leb, eq-eqb, ne_eqb}
 use Rattle.std.specs.Prelude.{slice_get, Some}
@@ -15,13 +15,14 @@ use Rattle.label.specs.declared.Versions.{Versions}
 use Rattle.answer.specs.Outcome.{Outcome, answer, refuse, need, and_then, mapped}
 use Rattle.answer.specs.Filled.{filled}
 use Rattle.answer.proofs.Outcomes.{answer_is_no_refusal, first_answered, refused_first, mapped_answer}
-use Rattle.answer.proofs.Writers.{Putting, nothing_put, one_put}
+use Rattle.answer.proofs.Writers.{Putting, nothing_put, one_put, all_put}
 use Rattle.sfdu.specs.Row.{Row}
 use Rattle.sfdu.specs.Check.{rows_of_file, check_labelled}
-use Rattle.row_index.specs.Index.{index_of, built_of, build_index, same, check_index}
+use Rattle.walk.specs.Walk.{walk_from}
+use Rattle.row_index.specs.Index.{index_of, built_of, build_index, same, check_index, place_found}
 use Rattle.row_index.specs.Private.{the_index}
 use Rattle.row_index.proofs.Sixteenths.{one_entry_a_group}
-use Rattle.row_index.proofs.Entries.{AtEntry, Entry, first_entry, index_of_accepted}
+use Rattle.row_index.proofs.Entries.{AtEntry, Entry, first_entry, entry_found, index_of_accepted}
 
 -- two lists that have an entry at i are compared there and then from i + 1 on
 same_step : (xs ys : List ℕ) (i : ℕ) → i < length xs → i < length ys
@@ -64,17 +65,25 @@ index_at_the_front old new index rows o entries n is index_is many rows_are New-
 module _ (versions : Versions) where
   -- ---- the builder's loop
 
-  pub record Writing (f : List ℕ) (entries : ℕ) (old list : List ℕ) (i from leaves : ℕ) : Type 0 where
-    pub put : Putting (the_index versions f) old list entries i
+  pub record Writing (f old list : List ℕ) (i from leaves : ℕ) : Type 0 where
+    pub put : Putting (the_index versions f) old list (length old) i
     pub at : AtEntry versions f i from leaves
 
-  pub nothing_written : (f : List ℕ) (entries : ℕ) (old : List ℕ) → Writing f entries old old 0 0 0
-  nothing_written f entries old = record { put = nothing_put (the_index versions f) old entries; at = first_entry versions f }
+  pub nothing_written : (f old : List ℕ) → Writing f old old 0 0 0
+  nothing_written f old = record { put = nothing_put (the_index versions f) old (length old); at = first_entry versions f }
 
-  pub entry_written : (f : List ℕ) (entries : ℕ) (old list : List ℕ) (i from leaves place : ℕ) → Writing f entries old list i from leaves
-      → entries ≤ length (the_index versions f) → entries ≤ length old → i < entries → Entry versions f i place → Writing f entries old (set list i place) (i + 1) place 16
-  entry_written f entries old list i from leaves place w h k more entry =
-      record { put = one_put (the_index versions f) old entries list i w.put h k place more entry.is; at = entry.on }
+  module _ (f old list : List ℕ) (i from leaves : ℕ) (w : Writing f old list i from leaves) (many : length old ≡ length (the_index versions f)) where
+    pub entry_written : (place : ℕ) → i < length old → place ≡ place_found (walk_from versions f from leaves)
+        → Writing f old (set list i place) (i + 1) place 16
+    entry_written place more found =
+        let entry = subst (Entry versions f i) (sym found) (entry_found versions f i from leaves w.at (omega arith)) in
+        record { put = one_put (the_index versions f) old (length old) list i w.put (omega arith) (omega arith) place more entry.is; at = entry.on }
+
+    pub all_written : length old ≤ i → list ≡ the_index versions f
+    all_written h =
+        all_put (the_index versions f) old (length old) list i w.put h
+        ∙ ap₂ (λ (a b : List ℕ). a ++ b) (take_all (length old) (the_index versions f) (omega arith)) (drop_of_length-le old {i = length old} (omega arith))
+        ∙ append-nil (the_index versions f)
 
   -- ---- the check's loop
 

@@ -5,7 +5,7 @@
 #![tactic(auto)]
 
 ghost use Rattle.answer.specs.Told.{told};
-ghost use Rattle.std.specs.Prelude.{◌≡◌, ℕ, ◌+◌, ◌/◌, ◌≤◌, ◌<◌, List, ◌++◌, length, take, drop, slice_get};
+ghost use Rattle.std.specs.Prelude.{◌≡◌, ℕ, ◌+◌, ◌/◌, ◌≤◌, List, length, slice_get};
 ghost use Rattle.answer.specs.Outcome.{and_then, mapped};
 ghost use Rattle.answer.specs.Size.{largest_file};
 ghost use Rattle.answer.specs.Filled.{filled};
@@ -79,18 +79,18 @@ pub fn entry_from(versions: Versions, file: &[u8], from: usize, leaves: usize) -
     }
 }
 
-// Writes the first entries of the file's index: each is found by a walk of sixteen leaves from the
-// one before it.
-fn write_entries(versions: Versions, file: &[u8], entries: usize, list: &mut [u32])
-    requires { (length file.now ≤ largest_file) × (entries ≤ length (the_index versions file.now)) × (entries ≤ length list.old) }
-    ensures { list.new ≡ take entries (the_index versions file.now) ++ drop entries list.old }
+// Writes the file's index into a list that has just as many entries: each is found by a walk of sixteen
+// leaves from the one before it.
+#[tactic(auto, using(crate::proofs::Building::nothing_written, crate::proofs::Building::all_written))]
+fn write_entries(versions: Versions, file: &[u8], list: &mut [u32])
+    requires { (length file.now ≤ largest_file) × (length list.old ≡ length (the_index versions file.now)) }
+    ensures { list.new ≡ the_index versions file.now }
 {
     let mut from: usize = 0;
     let mut leaves: usize = 0;
-    // By index: the promise is of the whole list, which `list[..entries].iter_mut()` would take apart.
-    for i in 0..entries {
+    for entry in list.iter_mut() {
         let place = entry_from(versions, file, from, leaves);
-        list[i] = place as u32;
+        *entry = place as u32;
         from = place;
         leaves = GROUP;
     }
@@ -133,7 +133,7 @@ pub fn build_index(versions: Versions, file: &[u8], list: &mut [u32]) -> Result<
     if list.len() < entries {
         return Err(Refused(Refusal::Small, 0));
     }
-    write_entries(versions, file, entries, list);
+    write_entries(versions, file, &mut list[..entries]);
     Ok(Built { entries, rows })
 }
 

@@ -65,11 +65,9 @@ pub fn read_row(
 pub fn bytes_of<'a>(original: &'a [u8], substitute: &'a [u8], found: Chosen) -> &'a [u8]
     ensures { result.now ≡ bytes_at (file_named found.source original.now substitute.now) found.row.part.place found.row.part.count }
 {
-    let row = found.row;
-    let part = row.part;
-    let source = found.source;
-    match source {
-        Source::Original => answer::bytes_of(original, part),
-        Source::Substitute => answer::bytes_of(substitute, part),
-    }
+    let file = match found.source {
+        Source::Original => original,
+        Source::Substitute => substitute,
+    };
+    answer::bytes_of(file, found.row.part)
 }

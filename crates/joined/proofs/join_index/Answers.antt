@@ -4,13 +4,14 @@
 use Prim.Native.Nat.{ℕ, ◌+◌, ◌-◌, ◌*◌, ◌≤◌}
 use native.Mathlib.Nat.{le_of_eq}
 use native.Mathlib.Omega.{arith}
-use mathlib.Core.Path.{◌≡◌, refl, ◌∙◌, sym, ap}
-use mathlib.Core.List.{◌++◌}
-use lib.ListN.{length, take, drop, length-append, length-drop}
+use mathlib.Core.Path.{◌≡◌, refl, ◌∙◌, sym, ap, ap₂}
+use mathlib.Core.List.{List, ◌++◌}
+use lib.ListN.{length, drop, length-append, length-drop}
+use lib.Seq.{take_all, length-take-le}
+use borrow.Rule.Slice.PartMut.{put_mid}
 use Rattle.std.proofs.lemmas.Result.{err_from_is_err_and}
 use Rattle.answer.specs.Outcome.{answer}
-use Rattle.answer.proofs.Parts.{all_that_is_left}
-use Rattle.answer.proofs.Writers.{two_pieces, written_length}
+use Rattle.answer.proofs.Writers.{pieces_put, written_length}
 use Rattle.sfdu.specs.Check.{check_labelled}
 use Rattle.row_index.specs.Index.{build_index, check_index}
 use Rattle.row_index.proofs.Building.{refused_build, counted_is_checked, refused_is_checked, index_at_the_front, no_room_to_build, index_is_built}
@@ -113,11 +114,6 @@ overflow_sub-passed c =
     let t = files (goal.at.overflow_sub-passed c).In_ok-more (first (goal.at.overflow_sub-passed c).In_ok-rows) in
     omega (arith, t.entries)
 
-pub overflow_sub-left : goal.overflow_sub-left
-overflow_sub-left c =
-    let t = files (goal.at.overflow_sub-left c).In_ok-more (first (goal.at.overflow_sub-left c).In_ok-rows) in
-    omega (arith, t.entries, c.groups-entries.ensures)
-
 -- the first file's entries fit
 fit : (c : Else-list-entries) → Both c.args.versions c.args.first.now c.args.index.now c.args.second.now c.args.other.now c.in_ok-rows.rows c.in_ok-more.more
     → length c.args.index.now ≤ length c.args.list.now
@@ -130,28 +126,28 @@ put_entries-requires c =
 
 pub slice_bounds-put_further-count : goal.slice_bounds-put_further-count
 slice_bounds-put_further-count c =
-    let h = fit (goal.at.slice_bounds-put_further-count c).Else-list-entries
-    (files (goal.at.slice_bounds-put_further-count c).In_ok-more (first (goal.at.slice_bounds-put_further-count c).In_ok-rows)) in
-    omega (arith, long (goal.at.slice_bounds-put_further-count c).After-put_entries h, h)
+    let t = files (goal.at.slice_bounds-put_further-count c).In_ok-more (first (goal.at.slice_bounds-put_further-count c).In_ok-rows) in
+    omega (arith, t.entries, c.groups-entries.ensures)
 
 pub slice_bounds-put_further-start : goal.slice_bounds-put_further-start
 slice_bounds-put_further-start c =
-    let h = fit (goal.at.slice_bounds-put_further-start c).Else-list-entries
-    (files (goal.at.slice_bounds-put_further-start c).In_ok-more (first (goal.at.slice_bounds-put_further-start c).In_ok-rows)) in
-    omega (arith, long (goal.at.slice_bounds-put_further-start c).After-put_entries h, h)
+    let t = files (goal.at.slice_bounds-put_further-start c).In_ok-more (first (goal.at.slice_bounds-put_further-start c).In_ok-rows) in
+    let h = fit (goal.at.slice_bounds-put_further-start c).Else-list-entries t in
+    omega (arith, t.entries, c.groups-entries.ensures, c.if-list-entries.false, long (goal.at.slice_bounds-put_further-start c).After-put_entries h)
 
 pub put_further-requires : goal.put_further-requires
 put_further-requires c =
-    let front = c.put_entries.new.list in
     let done = length c.args.index.now in
+    let front = c.put_entries.new.list in
     let f = first (goal.at.put_further-requires c).In_ok-rows in
     let t = files (goal.at.put_further-requires c).In_ok-more f in
     let h = fit (goal.at.put_further-requires c).Else-list-entries t in (
       c.if-sum-gt-LARGEST_FILE.false,
       t.second,
       omega (arith, t.entries),
-      le_of_eq (sym (rest (goal.at.put_further-requires c).After-groups-entries f (second (goal.at.put_further-requires c).In_ok-more))),
-      omega (arith, ap length (all_that_is_left front done), length-drop done front, long (goal.at.put_further-requires c).After-put_entries h, c.if-list-entries.false),
+      length-take-le (c.groups-entries.result - done) (drop done front)
+          (omega (arith, length-drop done front, long (goal.at.put_further-requires c).After-put_entries h, c.if-list-entries.false))
+          ∙ sym (rest (goal.at.put_further-requires c).After-groups-entries f (second (goal.at.put_further-requires c).In_ok-more)),
     )
 
 pub returns : goal.returns
@@ -161,14 +157,14 @@ returns c =
     let old = a.list.now in
     let done = length xs in
     let entries = c.groups-entries.result in
-    let front = c.put_entries.new.list in
     let f = first (goal.at.returns c).In_ok-rows in
     let m = (goal.at.returns c).In_ok-more in
     let t = files m f in
     let fs = further a.versions (length a.first.now) a.second.now (16 * done - c.in_ok-rows.rows) in
     let left = rest (goal.at.returns c).After-groups-entries f (second m) in
+    let front : c.put_entries.new.list ≡ xs ++ drop done old =
+    c.put_entries.ensures ∙ ap (λ (w : List ℕ). w ++ drop done old) (take_all done xs (le_of_eq refl)) in
     let (rows, builds, index, many) = index_is_built a.versions (a.first.now ++ a.second.now) (c.in_ok-rows.rows + c.in_ok-more.more) t.counts (length old) (omega (arith, c.groups-entries.ensures, c.if-list-entries.false)) in
     let both = index_at_the_front old _ (xs ++ fs) rows _ entries _ (built m f ∙ builds) (index ∙ t.index) (omega (arith, length-append xs fs, left, t.entries, c.groups-entries.ensures)) many
-    (two_pieces xs fs old front _ done refl (omega (arith, left, c.if-list-entries.false)) c.put_entries.ensures
-    (c.put_further.ensures ∙ ap (λ (n : ℕ). take n fs ++ drop n (take (length front - done) (drop done front))) (sym left))) in
+    (ap₂ (put_mid done (entries - done)) front c.put_further.ensures ∙ pieces_put xs fs old done (entries - done) refl left) in
     record { answers = both.0; leaves = both.1 }

@@ -12,6 +12,6 @@ pub returns : goal.returns
 returns c =
     let a = c.args in
     let out = a.out.now in
-    line_placed a.file.now out _ a.place a.c a.y a.at c.requires.0 c.requires.1
+    line_placed a.file.now out _ a.part.place a.part.count a.y a.at c.requires.0 c.requires.1
     (c.draw_line.ensures.leaves
     ∙ ap (λ (s : List ℕ). filled (line_into (length (take (length out - a.at) (drop a.at out))) a.y s) (take (length out - a.at) (drop a.at out))) c.bytes_of-samples.ensures)

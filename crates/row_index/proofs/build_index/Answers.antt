@@ -2,11 +2,10 @@
 -- there are as many entries as groups is `all`.
 use native.Mathlib.Omega.{arith}
 use Prim.Native.Nat.{ℕ}
-use native.Mathlib.Nat.{le_of_eq}
 use mathlib.Core.Path.{◌≡◌, ◌∙◌, sym, ap}
 use mathlib.Core.List.{List, ◌++◌}
 use lib.ListN.{length, drop}
-use lib.Seq.{take_all}
+use lib.Seq.{length-take-le}
 use Rattle.std.proofs.lemmas.Result.{err_from_is_err_and}
 use Rattle.sfdu.proofs.Checking.{accepted_says}
 use Rattle.row_index.specs.Private.{the_index}
@@ -34,8 +33,10 @@ returns-then-list-entries c =
 
 pub write_entries-requires : goal.write_entries-requires
 write_entries-requires c =
-    let (rows, accepted, many) = rows_counted c.args.versions c.args.file.now _ (sym c.in_ok-rows.ensures) in
-    ((accepted_says c.args.versions c.args.file.now rows accepted).0, le_of_eq (sym (all (goal.at.write_entries-requires c).After-groups-entries)), c.if-list-entries.false)
+    let (rows, accepted, many) = rows_counted c.args.versions c.args.file.now _ (sym c.in_ok-rows.ensures) in (
+      (accepted_says c.args.versions c.args.file.now rows accepted).0,
+      length-take-le c.groups-entries.result c.args.list.now c.if-list-entries.false ∙ sym (all (goal.at.write_entries-requires c).After-groups-entries),
+    )
 
 pub returns : goal.returns
 returns c =
@@ -46,7 +47,6 @@ returns c =
     let whole = all (goal.at.returns c).After-groups-entries in
     let (rows, builds, index, many) = index_is_built v f _ (sym c.in_ok-rows.ensures) (length old) (omega (arith, c.groups-entries.ensures, c.if-list-entries.false)) in
     let both = index_at_the_front old _ (the_index v f) rows _ entries _ builds index whole many
-    (c.write_entries.ensures
-    ∙ ap (λ (t : List ℕ). t ++ drop entries old) (take_all entries (the_index v f) (le_of_eq whole))
+    (ap (λ (xs : List ℕ). xs ++ drop entries old) c.write_entries.ensures
     ∙ ap (λ (m : ℕ). the_index v f ++ drop m old) (sym whole)) in
     record { answers = both.0; leaves = both.1 }

@@ -52,8 +52,8 @@ unwrap-row-requires c =
     is_there r.kind r.file.now r.first r.count r.window.first r.window.count c.args.out.now l.out l.from l.y l.invariant c.requires.there.0 c.requires.there.1 c.loop-y-test.true
     c.row_from.result c.row_from.ensures
 
-pub overflow_add-place : goal.overflow_add-place
-overflow_add-place c = omega (arith, inside (goal.at.overflow_add-place c).After-unwrap-row)
+pub overflow_add-part : goal.overflow_add-part
+overflow_add-part c = omega (arith, inside (goal.at.overflow_add-part c).After-unwrap-row)
 
 pub overflow_mul-y : goal.overflow_mul-y
 overflow_mul-y c = omega (arith, room (goal.at.overflow_mul-y c).After-unwrap-row, ap (λ (w : ℕ). c.loop-y.y * w) c.line_bytes-bytes.ensures)
