@@ -2,14 +2,13 @@
 use Prim.Native.Nat.{ℕ, suc, ◌+◌, ◌-◌, ◌≤◌, ◌<◌, zero-le}
 use native.Mathlib.Nat.{le_of_eq}
 use native.Mathlib.Omega.{arith}
-use mathlib.Core.Path.{◌≡◌, refl, ◌∙◌, sym, ap, ap₂}
-use mathlib.Core.List.{List, [], ◌∷◌, ◌++◌, append_assoc, append-nil}
+use mathlib.Core.Path.{◌≡◌, refl, ◌∙◌, sym, ap}
+use mathlib.Core.List.{List, ◌∷◌, ◌++◌, append_assoc, append-nil}
 use lib.ListN.{length, get_or, set, take, drop, length-append, length-drop, drop_of_length-le}
 use native.Mathlib.Numerals.{add-one}
-use lib.Seq.{take-length, take_at, drop_at, drop-drop, drop-cons, take-suc, set_at, append_snoc, length-take-le}
-use borrow.Rule.Slice.PartMut.{put_mid, post_of}
+use lib.Seq.{take_at, drop_at, drop-drop, drop-cons, take-suc, set_at, append_snoc, length-take-le}
+use borrow.Rule.Slice.PartMut.{put_mid}
 use Rattle.answer.specs.Outcome.{Outcome, answer, refuse}
-use Rattle.answer.proofs.Parts.{all_that_is_left}
 use Rattle.answer.specs.Filled.{Writes, amount, filled}
 
 module _ {x : Outcome (List ℕ)} (old : List ℕ) where
@@ -25,37 +24,6 @@ pub put_behind : (n : ℕ) (out back : List ℕ) → put_mid n (length out - n) 
 put_behind n out back =
     ap (λ (rest : List ℕ). take n out ++ rest)
     (ap (λ (after : List ℕ). back ++ after) (drop_of_length-le (drop n out) {i = length out - n} (le_of_eq (length-drop n out))) ∙ append-nil back)
-
--- A call that writes two pieces one after the other: `w` is copied to the front of `old`, which leaves `front`; then `ys`
--- is copied to the front of what is left, `&mut out[n..]`, which leaves `back` there. The lent memory then holds `w`, `ys`
--- and the rest of `old`.
-module _ (w ys old front back : List ℕ) (n : ℕ) (h : length w ≡ n) (room : n + length ys ≤ length old)
-    (first : front ≡ take (length w) w ++ drop (length w) old)
-    (second : back ≡ take (length ys) ys ++ drop (length ys) (take (length front - n) (drop n front))) where
-  front_is : front ≡ w ++ drop n old
-  front_is = first ∙ ap₂ ◌++◌ (take-length w) (ap (λ (k : ℕ). drop k old) h)
-
-  rest_is : drop n front ≡ drop n old
-  rest_is = ap (drop n) front_is ∙ drop_at w (drop n old) n h
-
-  back_is : back ≡ ys ++ drop (n + length ys) old
-  back_is =
-      second
-      ∙ ap₂ ◌++◌ (take-length ys)
-      (ap (drop (length ys)) (all_that_is_left front n ∙ rest_is) ∙ drop-drop (length ys) n old)
-
-  pub two_pieces : put_mid n (length front - n) front back ≡ (w ++ ys) ++ drop (length (w ++ ys)) old
-  two_pieces =
-      ap₂ (λ (a b : List ℕ). a ++ b) (ap (take n) front_is ∙ take_at w (drop n old) n h)
-      (ap₂ ◌++◌ back_is nothing_after ∙ append-nil (ys ++ drop (n + length ys) old))
-      ∙ sym (append_assoc w ys (drop (n + length ys) old))
-      ∙ ap (λ (k : ℕ). (w ++ ys) ++ drop k old) both
-    where
-      nothing_after : post_of n (length front - n) front ≡ []
-      nothing_after = drop_of_length-le (drop n front) {i = length front - n} (le_of_eq (length-drop n front))
-
-      both : n + length ys ≡ length (w ++ ys)
-      both = omega (arith, length-append w ys)
 
 -- Two pieces copied side by side, the first to the front and the second behind it: the lent memory then holds them and the rest of
 -- what it held.

@@ -131,7 +131,7 @@ fn put_line(samples: &[u8], y: usize, out: &mut [u8])
 {
     let cuts = Cuts::of_row(y);
     let (eights, rest) = samples.as_chunks::<8>();
-    // By place: of values behind a `zip` of `iter_mut` std promises nothing, and the rest of `out` stays.
+    // By place: of what is written behind a `zip` with `iter_mut` std promises nothing, and the rest of `out` stays.
     for (j, eight) in eights.iter().enumerate() {
         out[j] = cuts.dots(eight);
     }

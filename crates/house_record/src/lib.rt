@@ -47,7 +47,7 @@ fn take_entries(bytes: &[u8], list: &mut [u32])
     ensures { list.new ≡ entries_of (length list.old) bytes.now }
 {
     let (fours, _) = bytes.as_chunks::<4>();
-    // By place: of values behind a `zip` of `iter_mut` std promises nothing.
+    // By place: of what is written behind a `zip` with `iter_mut` std promises nothing.
     for (i, entry) in list.iter_mut().enumerate() {
         *entry = u32::from_le_bytes(fours[i]);
     }

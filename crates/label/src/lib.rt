@@ -172,7 +172,7 @@ fn spaces_in(field: &[u8]) -> usize
 
 // The number that the digits of a field from a place on write. (A digit is widened before 48 is taken from
 // it: by `digit - b'0'` a label of eight digits took 1.1 ns more. `from_str_radix` would take a sign. By place:
-// of the iterator of a part the compiler makes a flag for each length, and a padded label takes 2 ns more.)
+// with the iterator of a part the compiler tests beforehand for each length, and a padded label takes 2 ns more.)
 #[tactic(auto, using(crate::proofs::Spaces::number_starts, crate::proofs::Spaces::tens))]
 fn number_from(field: &[u8; FIELD], from: usize) -> Option<usize>
     requires { from ≤ field_size }
