@@ -14,7 +14,7 @@ module _ (n : ℕ) (s front : List ℕ) (is : IsFirstChunk s front n) where
   byte : (i : ℕ) → i < n → get_or front i 0 ≡ get_or s i 0
   byte i h = ap (λ (x : List ℕ). get_or x i 0) is.same ∙ get_or-take n s i 0 h
 
-  word : (at : ℕ) → at + 1 < n → word_at front at ≡ word_at s at
+  pub word : (at : ℕ) → at + 1 < n → word_at front at ≡ word_at s at
   word at h = ap₂ (λ (a b : ℕ). a + 256 * b) (byte at (omega arith)) (byte (at + 1) h)
 
   -- the number with a first word and a size
