@@ -3,7 +3,7 @@
 // the parameters in a file to the caller.
 #![tactic(auto)]
 
-ghost use Rattle.std.specs.Prelude.{◌≡◌, ◌+◌, ◌≤◌, length};
+ghost use Rattle.std.specs.Prelude.{◌≡◌, ◌+◌, ◌≤◌};
 ghost use Rattle.answer.specs.Told.{told};
 ghost use Rattle.orbit.specs.Opening.{orbit_number, time_at, per_orbit_opening};
 
