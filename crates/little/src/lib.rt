@@ -20,20 +20,21 @@ pub fn four(a: u8, b: u8, c: u8, d: u8) -> u32
     u32::from_le_bytes([a, b, c, d])
 }
 
-// The number in the two bytes from place `at` on; none where not both are there.
+// The number in the two bytes from place `at` on; none where not both are there. (There is one function for
+// each size: `from_le_bytes` is a function of each type, and a trait over three types would be no plainer.)
 pub fn two_at(bytes: &[u8], at: usize) -> Option<u32>
     ensures { result ≡ number_in 2 bytes.now at }
 {
-    let two = bytes.get(at..)?.first_chunk()?;
-    Some(u32::from(u16::from_le_bytes(*two)))
+    let [a, b] = *bytes.get(at..)?.first_chunk::<2>()?;
+    Some(two(a, b))
 }
 
 // The number in the four bytes from place `at` on; none where not all four are there.
 pub fn four_at(bytes: &[u8], at: usize) -> Option<u32>
     ensures { result ≡ number_in 4 bytes.now at }
 {
-    let four = bytes.get(at..)?.first_chunk()?;
-    Some(u32::from_le_bytes(*four))
+    let [a, b, c, d] = *bytes.get(at..)?.first_chunk::<4>()?;
+    Some(four(a, b, c, d))
 }
 
 // The number in the eight bytes from place `at` on; none where not all eight are there.

@@ -5,3 +5,4 @@ pub mod Rounded
 pub mod Mantissas
 pub mod Exact
 pub mod Nearest
+pub mod Front

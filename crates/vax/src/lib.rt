@@ -3,7 +3,7 @@
 // the bytes after it are not looked at. Which bytes of a file hold a number is left to the caller.
 #![tactic(auto)]
 
-ghost use Rattle.std.specs.Prelude.{◌≡◌, ◌+◌, ◌*◌, ◌/◌, ◌^◌, ◌<◌, ◌≤◌, length};
+ghost use Rattle.std.specs.Prelude.{◌≡◌, ◌+◌, ◌*◌, ◌/◌, ◌^◌, ◌<◌, ◌≤◌};
 ghost use Rattle.std.specs.Float.Ieee.Nearest.{closest};
 ghost use Rattle.answer.specs.Told.{told};
 ghost use Rattle.vax.specs.Fields.{word_at};
@@ -14,24 +14,24 @@ ghost use Rattle.vax.specs.Private.{patterned, below_sign_F, below_sign_D, BitsF
 
 use answer::{Refusal, Refused};
 
-// The little-endian word of 16 bits at `at`. (By std: `little`, which has the same in 32 bits, is the kept form's.)
-fn word(bytes: &[u8], at: usize) -> u64
-    requires { at + 1 < length bytes.now }
-    ensures { (result ≡ word_at bytes.now at) × (result < 65536) }
+// The little-endian word of 16 bits that two bytes are. (By std: `little::two` gives the same in 32 bits, which
+// would have to be widened here once more.)
+fn word(bytes: [u8; 2]) -> u64
+    ensures { (result ≡ word_at bytes 0) × (result < 65536) }
 {
-    u64::from(u16::from_le_bytes([bytes[at], bytes[at + 1]]))
+    u64::from(u16::from_le_bytes(bytes))
 }
 
-// The number that `bytes` starts with: refusal 9 or zero for exponent 0, else the float whose pattern is
+// The number whose first word is in `bytes`: refusal 9 or zero for exponent 0, else the float whose pattern is
 // the sign, then `size` and 894 more in the exponent's field. `size` is the number's exponent, then 52
-// digits of its fraction; digits that were rounded up run over into the exponent. (Its fields are taken by
-// division: they are no whole bytes. Both forms come here, so that no array type has its bytes.)
+// digits of its fraction; digits that were rounded up run over into the exponent. (The word's fields are taken
+// by division, since they are no whole bytes. Both forms come here, and have their first word alone in common.)
 #[tactic(auto, using(crate::proofs::Patterns::no_nan))]
-fn number(bytes: &[u8], size: u64) -> Result<f64, Refused>
-    requires { (4 ≤ length bytes.now) × (size ≤ 2 ^ 60) }
-    ensures { told result ≡ by_exponent (patterned size bytes.now) bytes.now }
+fn number(bytes: [u8; 2], size: u64) -> Result<f64, Refused>
+    requires { size ≤ 2 ^ 60 }
+    ensures { told result ≡ by_exponent (patterned size bytes) bytes }
 {
-    let first = word(bytes, 0);
+    let first = word(bytes);
     let sign = first / 32768;
     if first / 128 % 256 == 0 {
         if sign == 1 {
@@ -44,22 +44,21 @@ fn number(bytes: &[u8], size: u64) -> Result<f64, Refused>
     Ok(float)
 }
 
-// (Its words stand highest first, each little-endian: no method of the library reads that order.)
 // The 31 bits of an F number below its sign, exponent and fraction, which are also the upper ones of a D
-// number.
-fn bits_f(bytes: &[u8]) -> u64
-    requires { 4 ≤ length bytes.now }
+// number. (Its words stand highest first, each little-endian: no method of the library reads that order.)
+fn bits_f(bytes: &[u8; 4]) -> u64
     ensures { (result ≡ below_sign_F bytes.now) × BitsF bytes.now }
 {
-    word(bytes, 0) % 32768 * 65536 + word(bytes, 2)
+    let [a, b, c, d] = *bytes;
+    word([a, b]) % 32768 * 65536 + word([c, d])
 }
 
 // The 63 bits of a D number below its sign.
-fn bits_d(bytes: &[u8]) -> u64
-    requires { 8 ≤ length bytes.now }
+fn bits_d(bytes: &[u8; 8]) -> u64
     ensures { (result ≡ below_sign_D bytes.now) × BitsD bytes.now }
 {
-    (bits_f(bytes) * 65536 + word(bytes, 4)) * 65536 + word(bytes, 6)
+    let [a, b, c, d, e, f, g, h] = *bytes;
+    (bits_f(&[a, b, c, d]) * 65536 + word([e, f])) * 65536 + word([g, h])
 }
 
 // The F number in the first 4 bytes, exactly: `exact` says what the float is over whole numbers.
@@ -67,11 +66,9 @@ pub fn vax_f(bytes: &[u8]) -> Result<f64, Refused>
     ensures answers { told result ≡ vax_F bytes.now }
     ensures exact { ExactF bytes.now (told result) }
 {
-    if bytes.len() < 4 {
-        return Err(Refused(Refusal::Short, 0));
-    }
+    let four = bytes.first_chunk::<4>().ok_or(Refused(Refusal::Short, 0))?;
     // 23 digits of a fraction and 29 zeros
-    number(bytes, bits_f(bytes) * 0x2000_0000)
+    number([four[0], four[1]], bits_f(four) * 0x2000_0000)
 }
 
 // An eighth, to the nearest whole number and at a tie to the even one: three is added, and one more where
@@ -97,10 +94,8 @@ pub fn vax_d(bytes: &[u8]) -> Result<f64, Refused>
     ensures answers { told result ≡ vax_D bytes.now }
     ensures nearest { NearestD bytes.now (told result) }
 {
-    if bytes.len() < 8 {
-        return Err(Refused(Refusal::Short, 0));
-    }
-    number(bytes, nearest_eighth(bits_d(bytes)))
+    let eight = bytes.first_chunk::<8>().ok_or(Refused(Refusal::Short, 0))?;
+    number([eight[0], eight[1]], nearest_eighth(bits_d(eight)))
 }
 
 // The D number in the first 8 bytes, its three lowest fraction bits dropped and the rest exact, for old
@@ -110,8 +105,6 @@ pub fn vax_d_dropped(bytes: &[u8]) -> Result<f64, Refused>
     ensures answers { told result ≡ vax_D_dropped bytes.now }
     ensures exact { ExactDroppedD bytes.now (told result) }
 {
-    if bytes.len() < 8 {
-        return Err(Refused(Refusal::Short, 0));
-    }
-    number(bytes, dropped_eighth(bits_d(bytes)))
+    let eight = bytes.first_chunk::<8>().ok_or(Refused(Refusal::Short, 0))?;
+    number([eight[0], eight[1]], dropped_eighth(bits_d(eight)))
 }
