@@ -1,7 +1,7 @@
 // How numbers of the C boundary become the library's choices, and how an answer of the library is
 // handed over: its parts through the pointers, and the status by value. On a refusal no pointer is
 // written. Renders document 01's "Every refusal carries its number and a place" as numbers. The
-// exported functions are left to `capi`. (Flags and numbers are the C interface's, and so stay here.)
+// exported functions are left to `capi`.
 #![tactic(auto)]
 
 ghost use Rattle.std.specs.Prelude.{◌≡◌};
@@ -43,7 +43,8 @@ impl From<Refused> for Status {
     }
 }
 
-// Which versions are allowed, where version 2 is or is not.
+// Which versions are allowed, where version 2 is or is not. (A flag, as the C interface has it; so are the
+// numbers that the functions below write.)
 pub fn choice(version_2: bool) -> Versions
     ensures { result ≡ choice_of version_2 }
 {

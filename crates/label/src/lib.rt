@@ -282,6 +282,7 @@ pub fn read_label(versions: Versions, s: &[u8]) -> Result<Label, Refused>
     ensures { told result ≡ read_label versions s.now }
 {
     let b = s.first_chunk::<LABEL>().ok_or(Refused(Refusal::Short, 0))?;
+    // By a `match`: there are two versions, and the definitions go by them.
     match version_for(versions, b[4]) {
         Version::One => digits_label(b),
         Version::Two => binary_label(b),

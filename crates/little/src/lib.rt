@@ -1,6 +1,6 @@
 // Little-endian numbers: the number that bytes are, the lowest first, and the four bytes of a number
 // (document 01, "Kept form"; document 02, items 1 and 9). What stands where is left to the crates
-// above. (Bytes and a place in them stay two parameters: the callers have many places in the same bytes.)
+// above.
 #![tactic(auto)]
 
 ghost use Rattle.std.specs.Prelude.{◌≡◌, ◌<◌, [], ◌∷◌};
@@ -21,7 +21,8 @@ pub fn four(a: u8, b: u8, c: u8, d: u8) -> u32
 }
 
 // The number in the two bytes from place `at` on; none where not both are there. (There is one function for
-// each size: `from_le_bytes` is a function of each type, and a trait over three types would be no plainer.)
+// each size: `from_le_bytes` is a function of each type, and a trait over three types would be no plainer.
+// Bytes and a place stay two parameters: the callers have many places in the same bytes.)
 pub fn two_at(bytes: &[u8], at: usize) -> Option<u32>
     ensures { result ≡ number_in 2 bytes.now at }
 {
