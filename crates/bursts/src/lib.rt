@@ -4,7 +4,7 @@
 // `burst_fields`, windows of it to the reader.
 //
 // The caller vouches for the kind of the file and for the first place: nothing here looks into a
-// record. (Both are parameters of the C calls, and so of these. The four calls are the generic ones of `fixed_rows`:
+// record. (A file's bytes and the first place are two parameters of the C calls, and so of these. The four calls are the generic ones of `fixed_rows`:
 // docs/AUDIT.md names them, and so they stay.)
 #![tactic(auto)]
 

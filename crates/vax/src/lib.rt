@@ -25,7 +25,7 @@ fn word(bytes: [u8; 2]) -> u64
 // The number whose first word is in `bytes`: refusal 9 or zero for exponent 0, else the float whose pattern is
 // the sign, then `size` and 894 more in the exponent's field. `size` is the number's exponent, then 52
 // digits of its fraction; digits that were rounded up run over into the exponent. (The word's fields are taken
-// by division, since they are no whole bytes. Both forms come here, and have their first word alone in common.)
+// by division, since they are no whole bytes. Both forms come here, and of both the first word alone is read.)
 #[tactic(auto, using(crate::proofs::Patterns::no_nan))]
 fn number(bytes: [u8; 2], size: u64) -> Result<f64, Refused>
     requires { size ≤ 2 ^ 60 }
