@@ -425,7 +425,8 @@ uint8_t crest_tone(uint8_t sample);
 
 /*
  * plotter::strip of a labelled file. Draws as many rows as rows says, from number row on, by the window of count bytes from byte
- * first on. A strip of 0 rows has 0 bytes, whatever row and window.
+ * first on. A strip of 0 rows has 0 bytes, whatever row and window. A row whose number passes 64 bits is a missing one, and
+ * where the lines' bytes pass 64 bits there is no room for them.
  * Refuses: as crest_check_labelled, wherever in the file the fault stands; NOROW where any row of the strip is missing; then
  * NOPART where the window does not fit some row of it; SMALL.
  * Writes: the first written bytes of out, the lines; written, which is rows times the bytes of a line.

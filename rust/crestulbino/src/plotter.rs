@@ -39,7 +39,8 @@ pub const fn line_bytes(columns: usize) -> usize {
 /// whatever row and window.
 ///
 /// Refuses: as [`check`](crate::check), wherever in the file the fault stands; `NoRow` where any row of the
-/// strip is missing; then `NoPart` where the window does not fit some row of it; `Small`.
+/// strip is missing; then `NoPart` where the window does not fit some row of it; `Small`. A row whose number
+/// passes 64 bits is a missing one, and where the lines' bytes pass 64 bits there is no room for them.
 ///
 /// ```
 /// use crestulbino::{strip, Kind, Refusal, Versions, Window};
