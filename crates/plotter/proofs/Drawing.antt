@@ -1,15 +1,15 @@
 -- The lines of a strip, drawn one after the other: after y of them the buffer holds their lines and behind them what it held.
 use Prim.Native.Nat.{ℕ, zero, suc, ◌+◌, ◌-◌, ◌*◌, ◌≤◌, ◌<◌}
-use native.Mathlib.Nat.{zero-mul, add-mul, le_trans, mul-le-mul_right}
+use native.Mathlib.Nat.{le_trans, mul-le-mul_right}
 use native.Mathlib.Omega.{arith}
-use mathlib.Core.Path.{◌≡◌, ◌∙◌, sym, ap, ap₂, subst}
+use mathlib.Core.Path.{◌≡◌, refl, ◌∙◌, sym, ap, ap₂, subst}
 use mathlib.Core.Bool.{Bool, true, false}
-use mathlib.Core.List.{List, [], ◌∷◌, ◌++◌, map, append_assoc, append-nil, map-append, map-map}
-use lib.ListN.{length, take, drop, length-append, length-drop, length-map}
-use lib.Seq.{take_at, drop_at, drop-drop, length-take-le}
+use mathlib.Core.List.{List, [], ◌∷◌, ◌++◌, map, append_assoc, append-nil, map-map}
+use lib.ListN.{length, take, drop, length-drop, length-map}
+use lib.Seq.{drop-drop}
 use lib.Dec.{leb}
-use borrow.Author.Tests.{le-leb}
-use borrow.Rule.Slice.PartMut.{put_mid}
+use borrow.Author.Tests.{le-leb, leb-true}
+use Rattle.std.proofs.lemmas.List.{take_all, drop_all}
 use Rattle.std.proofs.Common.{rules}
 use Rattle.std.specs.Prelude.{Result, Ok, Err, IsOk}
 use Rattle.answer.specs.Told.{told}
@@ -22,13 +22,11 @@ use Rattle.answer.specs.declared.Shown.{Shown}
 use Rattle.answer.specs.declared.Part.{Part}
 use Rattle.answer.proofs.Outcomes.{after_answer, after_refusal, answer_injective, answer_is_no_refusal, first_answered, mapped_answer, refused_first}
 use Rattle.answer.proofs.Tests.{both_hold}
-use Rattle.answer.proofs.Parts.{all_that_is_left}
-use Rattle.answer.proofs.Writers.{put_behind}
 use Rattle.answer.proofs.Windows.{fitting_is_inside}
 use Rattle.std.specs.List.{range_with_len}
 use Rattle.dot_lines.specs.Line.{line_bytes, line, lines, line_into}
 use Rattle.dot_lines.proofs.Bytes.{line_long}
-use Rattle.dot_lines.proofs.Lines.{AllWide, wide_both, lines_of_both, lines_long}
+use Rattle.dot_lines.proofs.Lines.{AllWide, lines_long}
 use Rattle.reader.specs.declared.Kind.{Kind}
 use Rattle.reader.specs.Rows.{row_of}
 use Rattle.reader.specs.Demand3.{shown_bytes}
@@ -36,24 +34,16 @@ use Rattle.reader.proofs.Found.{row_inside}
 use Rattle.reader.proofs.Rows.{reads_the_rows}
 use Rattle.plotter.specs.Strip.{each_of, windows_of, draw_into}
 use Rattle.plotter.specs.Private.{end_of, judged}
-use Rattle.plotter.proofs.Going.{Starts, NextRow, Going, next_refused, nothing_found, one_found, all_found, one_missing, rest_is}
+use Rattle.plotter.proofs.Held.{window_bytes, bytes_wide, Held, nothing_held, held_long, held_size, held_more}
+use Rattle.plotter.proofs.Found.{each_refused, each_rest}
+use Rattle.plotter.proofs.Going.{Starts, NextRow, Going, next_refused, nothing_found, one_found, all_found}
 use Rattle.plotter.proofs.Windows.{all_fit, fits_the_middle, rows_of_windows}
-
--- the bytes of a row's window
-abbrev pub window_bytes : List ℕ → ℕ → ℕ → Shown → List ℕ
-window_bytes f a c row = shown_bytes f (window_at a c row)
-
-one_line : (y : ℕ) (window : List ℕ) → lines y (window ∷ []) ≡ line y window
-one_line y window = append-nil (line y window)
 
 -- a window that fits a row inside the file has its bytes there
 pub window_inside : (f : List ℕ) (row : Shown) (a c : ℕ) → end_of row ≤ length f → fits row.part.count a c ≡ true → row.part.place + a + c ≤ length f
 window_inside f row a c h e =
     let w = fitting_is_inside row.part.count a c e in
     omega (arith, h, w.begins, w.ends)
-
-pub bytes_wide : (f : List ℕ) (place c : ℕ) → place + c ≤ length f → length (bytes_at f place c) ≡ c
-bytes_wide f place c h = length-take-le c (drop place f) (omega (arith, length-drop place f, h))
 
 -- the windows of rows that are all there are all in the file, and as many as were asked for
 module _ (kind : Kind) (f : List ℕ) (a c : ℕ) where
@@ -104,87 +94,68 @@ are_drawn room kind f first n a c windows all =
           ∙ ap₂ (λ (t : Bool) (l : List ℕ). need t 8 (answer l)) e (sym drawn);
     }
 
--- a line drawn at its place of the buffer
-pub line_placed : (f out last : List ℕ) (place c y at : ℕ) → place + c ≤ length f → at + line_bytes c ≤ length out
-    → last ≡ filled (line_into (length (take (length out - at) (drop at out))) y (bytes_at f place c)) (take (length out - at) (drop at out))
-    → put_mid at (length out - at) out last ≡ take at out ++ line y (bytes_at f place c) ++ drop (at + line_bytes c) out
+-- a line that has room is drawn
+pub line_drawn : (f out : List ℕ) (place c y at : ℕ) → place + c ≤ length f → at + line_bytes c ≤ length out
+    → take at out ++ filled (line_into (length (drop at out)) y (bytes_at f place c)) (drop at out) ≡ take at out ++ line y (bytes_at f place c) ++ drop (at + line_bytes c) out
 unfolding line_into
-line_placed f out last place c y at inside room e =
+line_drawn f out place c y at inside room =
     let w = line y (bytes_at f place c) in
-    let left : take (length out - at) (drop at out) ≡ drop at out = all_that_is_left out at in
     let wide : line_bytes (length (bytes_at f place c)) ≡ line_bytes c = ap line_bytes (bytes_wide f place c inside) in
     let long : length w ≡ line_bytes c = line_long y (bytes_at f place c) ∙ wide in
-    put_behind at out last
-    ∙ ap (λ (l : List ℕ). take at out ++ l)
-    (e
-    ∙ ap (λ (l : List ℕ). filled (need (leb (line_bytes (length (bytes_at f place c))) (length l)) 8 (answer w)) l) left
-    ∙ ap (λ (b : Bool). filled (need b 8 (answer w)) (drop at out)) (le-leb (line_bytes (length (bytes_at f place c))) (length (drop at out)) (omega (arith, wide, room, length-drop at out)))
+    ap (λ (l : List ℕ). take at out ++ l)
+    (ap (λ (b : Bool). filled (need b 8 (answer w)) (drop at out)) (le-leb (line_bytes (length (bytes_at f place c))) (length (drop at out)) (omega (arith, wide, room, length-drop at out)))
     ∙ ap (λ (l : List ℕ). w ++ l) (drop-drop (length w) at out ∙ ap (λ (k : ℕ). drop (at + k) out) long))
     ∙ sym (append_assoc (take at out) w (drop (at + line_bytes c) out))
+
+-- and behind the buffer's end none is
+no_bytes : (xs : List ℕ) → length xs ≡ 0 → xs ≡ []
+no_bytes [] h = refl
+no_bytes (x ∷ xs) h = absurd (omega (arith, h))
+
+nowhere : (y : ℕ) (w : List ℕ) → filled (line_into 0 y w) [] ≡ []
+unfolding line_into
+nowhere y w = cases (leb (line_bytes (length w)) 0) refl
+  where
+    cases : (b : Bool) → leb (line_bytes (length w)) 0 ≡ b → filled (need b 8 (answer (line y w))) [] ≡ []
+    cases true e = ap (λ (l : List ℕ). l ++ drop (length l) []) (no_bytes (line y w) (omega (arith, line_long y w, leb-true (line_bytes (length w)) 0 e)))
+    cases false e = refl
+
+pub line_beyond : (out w : List ℕ) (at y : ℕ) → length out < at → out ≡ take at out ++ filled (line_into (length (drop at out)) y w) (drop at out)
+line_beyond out w at y h =
+    sym
+    (ap₂ (λ (front back : List ℕ). front ++ filled (line_into (length back) y w) back) (take_all at out (omega arith)) (drop_all at out (omega arith))
+    ∙ ap (λ (l : List ℕ). out ++ l) (nowhere y w)
+    ∙ append-nil out)
 
 pub record Drawing (kind : Kind) (f : List ℕ) (first n a c : ℕ) (old out : List ℕ) (from y : ℕ) : Type 0 where
   pub rows : List Shown
   pub going : Going kind f first n y from rows
-  pub wide : AllWide c (map (window_bytes f a c) rows)
-  pub holds : out ≡ lines 0 (map (window_bytes f a c) rows) ++ drop (y * line_bytes c) old
+  pub held : Held f a c 0 old out rows y
 
 module _ (kind : Kind) (f : List ℕ) (first n a c : ℕ) (old : List ℕ) where
   pub nothing_drawn : (from : ℕ) → Starts kind f first from → Drawing kind f first n a c old old from 0
-  nothing_drawn from s = record {
-    rows = [];
-    going = nothing_found kind f first n from s;
-    wide = tt;
-    holds = ap (λ (k : ℕ). drop k old) {x = 0} {y = 0 * line_bytes c} (omega (arith, zero-mul (line_bytes c)));
-  }
+  nothing_drawn from s = record { rows = []; going = nothing_found kind f first n from s; held = nothing_held f a c 0 old }
 
   module _ (out : List ℕ) (from y : ℕ) (d : Drawing kind f first n a c old out from y) where
-    drawn_long : length (lines 0 (map (window_bytes f a c) d.rows)) ≡ y * line_bytes c
-    drawn_long = lines_long c 0 (map (window_bytes f a c) d.rows) d.wide ∙ ap (λ (k : ℕ). k * line_bytes c) (length-map d.rows (window_bytes f a c) ∙ d.going.many)
-
     pub lines_fit : n * line_bytes c ≤ length old → y * line_bytes c ≤ length old
     lines_fit room = le_trans (mul-le-mul_right (line_bytes c) d.going.within) room
 
     pub same_size : n * line_bytes c ≤ length old → length out ≡ length old
-    same_size room =
-        ap length d.holds
-        ∙ length-append (lines 0 (map (window_bytes f a c) d.rows)) (drop (y * line_bytes c) old)
-        ∙ omega (arith, drawn_long, length-drop (y * line_bytes c) old, lines_fit room)
-
-    -- in front of the next line, and behind it
-    front_is : take (y * line_bytes c) out ≡ lines 0 (map (window_bytes f a c) d.rows)
-    front_is = ap (take (y * line_bytes c)) d.holds ∙ take_at (lines 0 (map (window_bytes f a c) d.rows)) (drop (y * line_bytes c) old) (y * line_bytes c) drawn_long
-
-    back_is : drop (y * line_bytes c + line_bytes c) out ≡ drop ((y + 1) * line_bytes c) old
-    back_is =
-        sym (drop-drop (line_bytes c) (y * line_bytes c) out)
-        ∙ ap (λ (l : List ℕ). drop (line_bytes c) (drop (y * line_bytes c) l)) d.holds
-        ∙ ap (drop (line_bytes c)) (drop_at (lines 0 (map (window_bytes f a c) d.rows)) (drop (y * line_bytes c) old) (y * line_bytes c) drawn_long)
-        ∙ drop-drop (line_bytes c) (y * line_bytes c) old
-        ∙ ap (λ (k : ℕ). drop k old) {x = y * line_bytes c + line_bytes c} {y = (y + 1) * line_bytes c} (omega (arith, add-mul y 1 (line_bytes c)))
-
-    one_line_more : (window : List ℕ) → lines 0 (map (window_bytes f a c) d.rows ++ window ∷ []) ≡ lines 0 (map (window_bytes f a c) d.rows) ++ line y window
-    one_line_more window =
-        lines_of_both 0 (map (window_bytes f a c) d.rows) (window ∷ [])
-        ∙ ap (λ (l : List ℕ). lines 0 (map (window_bytes f a c) d.rows) ++ l)
-        (one_line (0 + length (map (window_bytes f a c) d.rows)) window
-        ∙ ap (λ (k : ℕ). line k window) {x = 0 + length (map (window_bytes f a c) d.rows)} {y = y} (omega (arith, length-map d.rows (window_bytes f a c), d.going.many)))
+    same_size room = held_size f a c 0 old out d.rows y d.held (lines_fit room)
 
     pub one_drawn : y < n → (next : Shown) → NextRow kind f (first + y) next → fits next.part.count a c ≡ true → (after : List ℕ)
         → after ≡ take (y * line_bytes c) out ++ line y (bytes_at f (next.part.place + a) c) ++ drop (y * line_bytes c + line_bytes c) out
         → Drawing kind f first n a c old after (end_of next) (y + 1)
     one_drawn more next r fit after e =
-        let window = bytes_at f (next.part.place + a) c in
-        let same : window_bytes f a c r.row ≡ window = ap (λ (p : Part). bytes_at f (p.place + a) c) r.part in
-        let all : map (window_bytes f a c) (d.rows ++ r.row ∷ []) ≡ map (window_bytes f a c) d.rows ++ window ∷ [] =
-        map-append (window_bytes f a c) d.rows (r.row ∷ []) ∙ ap (λ (w : List ℕ). map (window_bytes f a c) d.rows ++ w ∷ []) same in
+        let same : window_bytes f a c r.row ≡ bytes_at f (next.part.place + a) c = ap (λ (p : Part). bytes_at f (p.place + a) c) r.part in
+        let inside : r.row.part.place + a + c ≤ length f = omega (arith, window_inside f next a c r.inside fit, ap (λ (p : Part). p.place) r.part) in
         record {
           rows = d.rows ++ r.row ∷ [];
           going = one_found kind f first n y from d.rows d.going more next r;
-          wide = subst (AllWide c) (sym all) (wide_both c (map (window_bytes f a c) d.rows) (window ∷ []) d.wide (bytes_wide f (next.part.place + a) c (window_inside f next a c r.inside fit), tt));
-          holds =
-              e
-              ∙ ap₂ (λ (l r : List ℕ). l ++ line y window ++ r) front_is back_is
-              ∙ ap (λ (l : List ℕ). l ++ drop ((y + 1) * line_bytes c) old) (sym (ap (lines 0) all ∙ one_line_more window));
+          held =
+              held_more f a c 0 old out d.rows y d.held r.row inside after
+              (e
+              ∙ ap₂ (λ (k : ℕ) (w : List ℕ). take (y * line_bytes c) out ++ line k w ++ drop (y * line_bytes c + line_bytes c) out) {x = y} {y = 0 + y} (omega arith) (sym same));
         }
 
     -- where the window fits all rows, it fits the next one, and there is a next one
@@ -192,13 +163,13 @@ module _ (kind : Kind) (f : List ℕ) (first n a c : ℕ) (old : List ℕ) where
       pub next_fits : y < n → (row : Shown) → row_of kind f (first + y) ≡ answer row → fits row.part.count a c ≡ true
       next_fits more row is_row =
           let w = rows_of_windows a c (row_of kind f) first n windows all in
-          let (rest, left, are) = mapped_answer (λ rest. d.rows ++ row ∷ rest) (each_of (row_of kind f) (range_with_len (first + (y + 1)) (n - (y + 1)))) w.rows (sym (rest_is kind f first n y from d.rows d.going more row is_row) ∙ w.found) in
+          let (rest, left, are) = mapped_answer (λ rest. d.rows ++ row ∷ rest) (each_of (row_of kind f) (range_with_len (first + (y + 1)) (n - (y + 1)))) w.rows (sym (each_rest (row_of kind f) first y d.rows d.going.so_far n more row is_row) ∙ w.found) in
           fits_the_middle a c d.rows rest row (ap (all_fit a c) are ∙ w.fit)
 
       pub none_missing : y < n → (m p : ℕ) → row_of kind f (first + y) ≡ refuse m p → ⊥
       none_missing more m p e =
           let w = rows_of_windows a c (row_of kind f) first n windows all in
-          answer_is_no_refusal (sym w.found ∙ one_missing kind f first n y from d.rows d.going more m p e)
+          answer_is_no_refusal (sym w.found ∙ each_refused (row_of kind f) first y d.rows d.going.so_far n m p more e)
 
       pub is_there : y < n → (r : Result Shown Refused) → told r ≡ row_from kind f from → IsOk r
       is_there more (Ok row) e = search rules
@@ -209,8 +180,8 @@ module _ (kind : Kind) (f : List ℕ) (first n a c : ℕ) (old : List ℕ) where
       all_drawn done room =
           let w = are_drawn (length old) kind f first n a c windows all in
           let rows : d.rows ≡ w.rows = answer_injective (sym (all_found kind f first n y from d.rows d.going done) ∙ w.found) in
-          d.holds
-          ∙ ap (λ (k : ℕ). lines 0 (map (window_bytes f a c) d.rows) ++ drop k old) (sym drawn_long)
+          d.held.holds
+          ∙ ap (λ (k : ℕ). lines 0 (map (window_bytes f a c) d.rows) ++ drop k old) (sym (held_long f a c 0 old out d.rows y d.held))
           ∙ ap (λ (rs : List Shown). lines 0 (map (window_bytes f a c) rs) ++ drop (length (lines 0 (map (window_bytes f a c) rs))) old) rows
           ∙ ap (λ (o : Outcome (List ℕ)). filled o old) (sym (w.called true (le-leb (n * line_bytes c) (length old) room)))
 

@@ -13,7 +13,8 @@ use Rattle.reader.specs.declared.Kind.{Kind}
 use Rattle.reader.specs.Rows.{row_of}
 use Rattle.plotter.specs.Strip.{each_of, windows_of}
 use Rattle.plotter.specs.Private.{end_of, judged}
-use Rattle.plotter.proofs.Going.{Starts, NextRow, Going, nothing_found, one_found, all_found, one_missing}
+use Rattle.plotter.proofs.Found.{each_refused}
+use Rattle.plotter.proofs.Going.{Starts, NextRow, Going, nothing_found, one_found, all_found}
 use Rattle.plotter.proofs.Windows.{all_fit, fit_one_more, windows_of_rows}
 
 pub record Judging (kind : Kind) (f : List ℕ) (first n a c : ℕ) (fit : Bool) (from found : ℕ) : Type 0 where
@@ -42,7 +43,7 @@ module _ (kind : Kind) (f : List ℕ) (first n a c : ℕ) where
     }
 
     pub one_refused : found < n → (m p : ℕ) → row_of kind f (first + found) ≡ refuse m p → judged (windows_of (row_of kind f) first n a c) ≡ refuse m p
-    one_refused more m p e = ap judged (row_refused m p (one_missing kind f first n found from j.rows j.going more m p e))
+    one_refused more m p e = ap judged (row_refused m p (each_refused (row_of kind f) first found j.rows j.going.so_far n m p more e))
 
     pub all_judged : n ≤ found → judged (windows_of (row_of kind f) first n a c) ≡ need fit 7 (answer tt)
     all_judged done =

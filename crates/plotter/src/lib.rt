@@ -7,7 +7,7 @@ ghost use Rattle.answer.specs.Told.{told};
 ghost use Rattle.std.specs.Prelude.{◌≡◌, ◌++◌, ◌+◌, ◌*◌, ◌≤◌, length, take, drop, IsTrue};
 ghost use Rattle.answer.specs.Filled.{Writes, filled};
 ghost use Rattle.answer.specs.Window.{bytes_at};
-ghost use Rattle.dot_lines.specs.Line.{line_bytes, line};
+ghost use Rattle.dot_lines.specs.Line.{line_bytes, line_into};
 ghost use Rattle.plotter.specs.Strip.{strip_into};
 ghost use Rattle.plotter.specs.Private.{start_of, is_start, judged};
 
@@ -28,14 +28,15 @@ fn start_of(kind: Kind, file: &[u8], first: usize) -> Result<usize, Refused>
     Ok(row.part.place + row.part.count)
 }
 
-// Draws line `y`, of the bytes of this part, from byte `at` of `out` on.
+// Draws line `y`, of the bytes of this part of the file, from byte `at` of `out` on; nothing where there is no room.
 fn draw_row(file: &[u8], part: Part, y: usize, at: usize, out: &mut [u8])
-    requires { (part.place + part.count ≤ length file.now) × (at + line_bytes part.count ≤ length out.old) }
-    ensures { out.new ≡ take at out.old ++ line y (bytes_at file.now part.place part.count)
-        ++ drop (at + line_bytes part.count) out.old }
+    ensures { out.new ≡ take at out.old ++ filled (line_into (length (drop at out.old)) y (bytes_at file.now part.place part.count))
+        (drop at out.old) }
 {
     let samples = answer::bytes_of(file, part);
-    let _ = dot_lines::draw_line(samples, y, &mut out[at..]);
+    if at <= out.len() {
+        let _ = dot_lines::draw_line(samples, y, &mut out[at..]);
+    }
 }
 
 // Consecutive rows of a file, of which the first is come to from `start`, and a window of each. The number of the

@@ -32,7 +32,8 @@ use Rattle.plotter.specs.Strip.{each_of, windows_of, draw_into, strip_into}
 use Rattle.trace.specs.Behind.{dot_from, dot_behind}
 use Rattle.trace.specs.Tracing.{StandsBehind, Traced}
 use Rattle.plotter.proofs.Windows.{all_fit, rows_of_windows}
-use Rattle.plotter.proofs.Drawing.{window_bytes, window_inside, bytes_wide, each_many, each_wide, are_drawn}
+use Rattle.plotter.proofs.Held.{window_bytes, bytes_wide}
+use Rattle.plotter.proofs.Drawing.{window_inside, each_many, each_wide, are_drawn}
 use Rattle.trace.proofs.OneDot.{dot_of_row}
 
 -- one of the rows of a strip, and its window

@@ -7,7 +7,7 @@ use Rattle.answer.specs.declared.Part.{Part}
 use Rattle.dot_lines.specs.Line.{line_bytes, line}
 use Rattle.plotter.proofs.Going.{NextRow, next_row}
 use Rattle.plotter.proofs.Starting.{known_start}
-use Rattle.plotter.proofs.Drawing.{nothing_drawn, one_drawn, same_size, next_fits, is_there, all_drawn, window_inside}
+use Rattle.plotter.proofs.Drawing.{nothing_drawn, line_drawn, one_drawn, same_size, next_fits, is_there, all_drawn, window_inside}
 use Rattle.plotter.proofs.Rows.draw.Goals as goal
 use Rattle.plotter.proofs.Rows.draw.Goals.{After-unwrap-row}
 
@@ -58,16 +58,6 @@ overflow_add-part c = omega (arith, inside (goal.at.overflow_add-part c).After-u
 pub overflow_mul-y : goal.overflow_mul-y
 overflow_mul-y c = omega (arith, room (goal.at.overflow_mul-y c).After-unwrap-row, ap (λ (w : ℕ). c.loop-y.y * w) c.line_bytes-bytes.ensures)
 
-pub draw_row-requires : goal.draw_row-requires
-draw_row-requires c =
-    let r = c.args.self.now in
-    let l = c.loop-y in
-    let long : length l.out ≡ length c.args.out.now =
-    same_size r.kind r.file.now r.first r.count r.window.first r.window.count c.args.out.now l.out l.from l.y l.invariant c.requires.room in (
-      inside (goal.at.draw_row-requires c).After-unwrap-row,
-      omega (arith, room (goal.at.draw_row-requires c).After-unwrap-row, ap (λ (w : ℕ). l.y * w) c.line_bytes-bytes.ensures),
-    )
-
 pub overflow_add-from : goal.overflow_add-from
 overflow_add-from c = omega (arith, (came (goal.at.overflow_add-from c).After-unwrap-row).inside)
 
@@ -77,10 +67,13 @@ loop-y-preserved c =
     let l = c.loop-y in
     let m = (goal.at.loop-y-preserved c).After-unwrap-row in
     let next = c.unwrap-row.result in
+    let at : l.y * c.line_bytes-bytes.result ≡ l.y * line_bytes r.window.count = ap (λ (w : ℕ). l.y * w) c.line_bytes-bytes.ensures in
+    let long : length l.out ≡ length c.args.out.now =
+    same_size r.kind r.file.now r.first r.count r.window.first r.window.count c.args.out.now l.out l.from l.y l.invariant c.requires.room in
     one_drawn r.kind r.file.now r.first r.count r.window.first r.window.count c.args.out.now l.out l.from l.y l.invariant c.loop-y-test.true next (came m) (fitted m) _
     (c.draw_row.ensures
-    ∙ ap (λ (at : ℕ). take at l.out ++ line l.y (bytes_at r.file.now (next.part.place + r.window.first) r.window.count) ++ drop (at + line_bytes r.window.count) l.out)
-    (ap (λ (w : ℕ). l.y * w) c.line_bytes-bytes.ensures))
+    ∙ line_drawn r.file.now l.out (next.part.place + r.window.first) r.window.count l.y (l.y * c.line_bytes-bytes.result) (inside m) (omega (arith, room m, at, long))
+    ∙ ap (λ (k : ℕ). take k l.out ++ line l.y (bytes_at r.file.now (next.part.place + r.window.first) r.window.count) ++ drop (k + line_bytes r.window.count) l.out) at)
 
 pub returns : goal.returns
 returns c =
