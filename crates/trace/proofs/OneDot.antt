@@ -18,7 +18,7 @@ use Rattle.reader.specs.Read.{find_row, read_row}
 use Rattle.reader.proofs.Rows.{reads_the_rows}
 use Rattle.reader.proofs.Demand2.{demand_2}
 use Rattle.reader.proofs.Found.{row_inside}
-use Rattle.plotter.proofs.Drawing.{window_inside}
+use Rattle.plotter.proofs.Drawn.{window_inside}
 use Rattle.plotter.proofs.Starting.{checked}
 use Rattle.trace.specs.Behind.{dot_from, dot_behind}
 

@@ -33,7 +33,8 @@ use Rattle.trace.specs.Behind.{dot_from, dot_behind}
 use Rattle.trace.specs.Tracing.{StandsBehind, Traced}
 use Rattle.plotter.proofs.Windows.{all_fit, rows_of_windows}
 use Rattle.plotter.proofs.Held.{window_bytes, bytes_wide}
-use Rattle.plotter.proofs.Drawing.{window_inside, each_many, each_wide, are_drawn}
+use Rattle.plotter.proofs.Drawing.{rows_inside}
+use Rattle.plotter.proofs.Drawn.{window_inside, each_many, each_wide, are_drawn}
 use Rattle.trace.proofs.OneDot.{dot_of_row}
 
 -- one of the rows of a strip, and its window
@@ -120,8 +121,8 @@ module _ (kind : Kind) (f : List ℕ) (first n a c : ℕ) where
     unfolding bit_in
     bit_at x y column row =
         ap (λ (b : ℕ). b / 2 ^ (7 - x % 8) % 2)
-        (byte_of_lines c 0 windows (each_wide kind f a c n first rows found fit) y (x / 8)
-        (omega (arith, length-map rows (window_bytes f a c), each_many kind f a c n first rows found, row)) (omega (arith, column))
+        (byte_of_lines c 0 windows (each_wide (row_of kind f) f (rows_inside kind f) a c n first rows found fit) y (x / 8)
+        (omega (arith, length-map rows (window_bytes f a c), each_many (row_of kind f) f (rows_inside kind f) a c n first rows found, row)) (omega (arith, column))
         ∙ ap (λ (k : ℕ). get_or (line k (get_or windows y [])) (x / 8) 0) {x = 0 + y} {y = y} (omega arith))
         ∙ bit_of_line y (get_or windows y []) x (omega (arith, column, ap line_bytes (width y row)))
 
@@ -173,7 +174,7 @@ strip_is_traced room kind f first n a c bytes e =
     let (shown, all, needed) = first_answered (windows_of (row_of kind f) first n a c) (λ ws. need (leb (n * line_bytes c) room) 8 (answer (lines 0 (map (shown_bytes f) ws)))) bytes drew in
     let is = answer_injective (passed 0 (leb (n * line_bytes c) room) 8 (answer (lines 0 (map (shown_bytes f) shown))) bytes needed).1 in
     let w = rows_of_windows a c (row_of kind f) first n shown all in
-    let d = are_drawn room kind f first n a c shown all in
+    let d = are_drawn (row_of kind f) f (rows_inside kind f) a c room first n 0 shown all in
     let same : w.rows ≡ d.rows = answer_injective (sym w.found ∙ d.found) in
     lines_traced kind f first n a c w.rows w.found w.fit bytes
     (ap (λ (rs : List Shown). lines 0 (map (window_bytes f a c) rs)) same ∙ d.drawn ∙ is)

@@ -7,7 +7,8 @@ use Rattle.answer.specs.declared.Part.{Part}
 use Rattle.dot_lines.specs.Line.{line_bytes, line}
 use Rattle.plotter.proofs.Going.{NextRow, next_row}
 use Rattle.plotter.proofs.Starting.{known_start}
-use Rattle.plotter.proofs.Drawing.{nothing_drawn, line_drawn, one_drawn, same_size, next_fits, is_there, all_drawn, window_inside}
+use Rattle.plotter.proofs.Drawing.{nothing_drawn, line_drawn, one_drawn, same_size, next_fits, is_there, all_drawn}
+use Rattle.plotter.proofs.Drawn.{window_inside}
 use Rattle.plotter.proofs.Rows.draw.Goals as goal
 use Rattle.plotter.proofs.Rows.draw.Goals.{After-unwrap-row}
 
