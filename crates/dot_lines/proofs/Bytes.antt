@@ -56,7 +56,7 @@ module _ (y : ℕ) (window : List ℕ) (j : ℕ) where
       ∙ sample_bit y window (8 * j + i)
 
   -- eight samples of the window, from column 8·j on
-  byte_of_line : (samples : List ℕ) → ((i : ℕ) → i < 8 → get_or samples i 0 ≡ get_or window (8 * j + i) 255) → dots_of y samples ≡ line_byte y window j
+  pub byte_of_line : (samples : List ℕ) → ((i : ℕ) → i < 8 → get_or samples i 0 ≡ get_or window (8 * j + i) 255) → dots_of y samples ≡ line_byte y window j
   unfolding dots_of line_byte
   byte_of_line samples are =
       let each : (i : ℕ) → i < 8 → bit (is_dot (tone (get_or samples i 0)) i y) ≡ dot_bit y window (8 * j + i) = λ i h. column i (get_or samples i 0) (are i h) in

@@ -77,3 +77,9 @@ module _ (s : Shape) (some : 0 < step s) (f : List ℕ) where
       let (start, found, is) = mapped_answer (row_at s) (read_start s.first (step s) f k) p e in
       subst (λ (r : Shown). r.part.place + r.part.count ≤ length f) is
       (omega (arith, found_ends_inside s.first (step s) f k some start found))
+
+-- and has the bytes of a row
+pub row_has_its_size : (s : Shape) (f : List ℕ) (k : ℕ) (p : Shown) → find_row s f k ≡ answer p → p.part.count ≡ s.size
+row_has_its_size s f k p e =
+    let (start, found, is) = mapped_answer (row_at s) (read_start s.first (step s) f k) p e in
+    sym (ap (λ (r : Shown). r.part.count) is)

@@ -1,13 +1,14 @@
 -- The entries of a record and their bytes, four to each: one gives the other back.
-use Prim.Native.Nat.{ℕ, zero, suc, ◌*◌, ◌^◌, ◌<◌, ◌≤◌}
+use Prim.Native.Nat.{ℕ, zero, suc, ◌+◌, ◌*◌, ◌^◌, ◌<◌, ◌≤◌}
 use native.Mathlib.Omega.{arith}
 use mathlib.Core.Path.{◌≡◌, refl, ◌∙◌, sym, ap, ap₂}
 use mathlib.Core.List.{List, [], ◌∷◌, ◌++◌}
 use lib.ListN.{length, get_or, take, drop, length-drop, take-append-drop}
-use lib.Seq.{length-take-le}
+use lib.Seq.{drop-drop, length-take-le}
 use Rattle.std.specs.Prelude.{slice_get, Some, None}
 use Rattle.std.specs.Int.{from_le_bytes, w32}
 use Rattle.std.specs.Simd.{first_chunks}
+use Rattle.answer.specs.Window.{bytes_at}
 use Rattle.little.specs.LittleEndian.{le, le_number, Below}
 use Rattle.little.proofs.LittleEndian.{four_are_a_number, number_of_bytes, bytes_of_number, below_in_the_front, below_in_the_rest}
 use Rattle.house_record.specs.Record.{entry_bytes, entries_of}
@@ -34,6 +35,19 @@ bytes_of_entries (suc n) s h b =
     ap₂ ◌++◌ (ap (λ (w : ℕ). le w (le_number (take 4 s))) (sym four) ∙ bytes_of_number (take 4 s) (below_in_the_front 256 4 s b))
     (bytes_of_entries n (drop 4 s) (length-drop 4 s ∙ omega arith) (below_in_the_rest 256 4 s b))
     ∙ take-append-drop 4 s
+
+-- entry i
+entry_at : (n i : ℕ) (s : List ℕ) → i < n → get_or (entries_of n s) i 0 ≡ le_number (bytes_at s (4 * i) 4)
+entry_at zero i s h = absurd (omega arith)
+entry_at (suc n) zero s h = refl
+entry_at (suc n) (suc i) s h =
+    let further : 4 + 4 * i ≡ 4 * suc i = omega arith in
+    entry_at n i (drop 4 s) (omega arith)
+    ∙ ap (λ (r : List ℕ). le_number (take 4 r)) (drop-drop (4 * i) 4 s ∙ ap (λ (k : ℕ). drop k s) further)
+
+-- entry i of those that begin at `first`
+pub entry_place : (first n i : ℕ) (s : List ℕ) → i < n → get_or (entries_of n (drop first s)) i 0 ≡ le_number (bytes_at s (first + 4 * i) 4)
+entry_place first n i s h = entry_at n i (drop first s) h ∙ ap (λ (r : List ℕ). le_number (take 4 r)) (drop-drop (4 * i) first s)
 
 -- the number of the four bytes that are cut off as number i is entry i
 pub entry_of_four : (n i : ℕ) (s : List ℕ) → i < n → 4 * n ≤ length s → from_le_bytes w32 (get_or (first_chunks 4 n s) i []) ≡ get_or (entries_of n s) i 0

@@ -111,7 +111,7 @@ pub only_one_is_one : (version : Version) → allows choice.One version ≡ true
 only_one_is_one One e = refl
 only_one_is_one Two e = absurd (let z : ◌≡◌ {A = ℕ} 0 1 = cc e in omega arith)
 
-eight_digits_at_most : (n i : ℕ) → i ≤ 8 → n < 10 ^ i → n < 100000000
+pub eight_digits_at_most : (n i : ℕ) → i ≤ 8 → n < 10 ^ i → n < 100000000
 eight_digits_at_most n i h k = omega (arith, pow-le-pow_right {n = 10} (omega arith) h)
 
 -- a field that was read has few spaces, and writes a number of eight digits at most

@@ -20,10 +20,10 @@ use Rattle.label.specs.declared.Version.TheVariants.{One}
 use Rattle.label.specs.declared.Length.{Length}
 use Rattle.label.specs.Length.{one_more, spaces_in, number_in, after, length_of}
 
-no_space_in_front : (b : ℕ) (bs : List ℕ) → (b ≡ 32 → ⊥) → spaces_in (b ∷ bs) ≡ 0
+pub no_space_in_front : (b : ℕ) (bs : List ℕ) → (b ≡ 32 → ⊥) → spaces_in (b ∷ bs) ≡ 0
 no_space_in_front b bs h = ap (λ (t : Bool). one_more t (spaces_in bs)) (ne_eqb b 32 h)
 
-some_bytes : (xs : List ℕ) → 0 < length xs → number_in xs ≡ decimal 0 xs
+pub some_bytes : (xs : List ℕ) → 0 < length xs → number_in xs ≡ decimal 0 xs
 some_bytes [] h = absurd (omega arith)
 some_bytes (b ∷ bs) h = refl
 

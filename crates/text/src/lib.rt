@@ -3,25 +3,40 @@
 // zeros. What stands around a number is left to the crates above.
 #![tactic(auto)]
 
-ghost use Rattle.std.specs.Prelude.{ℕ, ◌≡◌, ◌+◌, ◌%◌, ◌<◌, ◌≤◌, List, length, drop};
+ghost use Rattle.std.specs.Prelude.{ℕ, ◌≡◌, ◌+◌, ◌%◌, ◌≤◌, List, length};
 ghost use Rattle.text.specs.Decimal.{decimal_text};
 
 use std::marker::Model;
 
-// A number's text, which contracts see as the list of its bytes. Of the memory that it stands in, what
-// stands before `first` is left free. (Fixed memory: the project has no heap, and so no `String`.)
-#[derive(Drop)]
+// A number's text, which contracts see as the list of its bytes. What stands before `first` is `0` all through, so that
+// the text gives the fields back and a numeral may be copied. (Fixed memory: the project has no heap, and so no `String`.)
+#[derive(Clone, Copy)]
 pub struct Numeral {
     digits: [u8; 20],
     first: usize,
 }
 
 impl Model for Numeral {
+    ghost use Rattle.std.proofs.Common.{◌≡◌, ℕ, ◌-◌, ◌<◌, List, ◌++◌, length, take, drop, replicate, ◌∙◌, sym, ap, arith, take-append-drop};
+    ghost use Rattle.std.proofs.lemmas.List.{length-drop};
+
     ghost Value = { List ℕ };
 
     ghost view = { λ numeral. drop numeral.first numeral.digits };
 
-    ghost invariant = { λ numeral. numeral.first < 20 };
+    ghost invariant = { λ numeral. (numeral.first < 20) × (length numeral.digits ≡ 20)
+        × (take numeral.first numeral.digits ≡ replicate numeral.first 48) };
+
+    ghost inverse = { λ text. record { digits = replicate (20 - length text) 48 ++ text; first = 20 - length text } };
+
+    ghost inverse_ok = { λ a h i.
+        let first : 20 - length (drop a.first a.digits) ≡ a.first = omega (arith, h.0, h.1, length-drop a.first a.digits) in
+        record {
+          digits = (ap (λ (k : ℕ). replicate k 48 ++ drop a.first a.digits) first
+              ∙ ap (λ (front : List ℕ). front ++ drop a.first a.digits) (sym h.2)
+              ∙ take-append-drop a.first a.digits) i;
+          first = first i;
+        } };
 }
 
 impl Numeral {

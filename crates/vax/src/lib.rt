@@ -3,7 +3,7 @@
 // the bytes after it are not looked at. Which bytes of a file hold a number is left to the caller.
 #![tactic(auto)]
 
-ghost use Rattle.std.specs.Prelude.{◌≡◌, ◌+◌, ◌*◌, ◌/◌, ◌^◌, ◌<◌, ◌≤◌};
+ghost use Rattle.std.specs.Prelude.{◌≡◌, ◌+◌, ◌*◌, ◌/◌, ◌^◌, ◌<◌, ◌≤◌, length};
 ghost use Rattle.std.specs.Float.Ieee.Nearest.{closest};
 ghost use Rattle.answer.specs.Told.{told};
 ghost use Rattle.vax.specs.Fields.{word_at};
@@ -14,12 +14,13 @@ ghost use Rattle.vax.specs.Private.{patterned, below_sign_F, below_sign_D, BitsF
 
 use answer::{Refusal, Refused};
 
-// The little-endian word of 16 bits that two bytes are. (By std: `little::two` gives the same in 32 bits, which
-// would have to be widened here once more.)
-fn word(bytes: [u8; 2]) -> u64
-    ensures { (result ≡ word_at bytes 0) × (result < 65536) }
+// The little-endian word of 16 bits at `at`. (By std: `little::two` gives the same in 32 bits, which would have to
+// be widened here once more. Told the place and not the two bytes, so that the compiler reads them at once.)
+fn word(bytes: &[u8], at: usize) -> u64
+    requires { at + 1 < length bytes.now }
+    ensures { (result ≡ word_at bytes.now at) × (result < 65536) }
 {
-    u64::from(u16::from_le_bytes(bytes))
+    u64::from(u16::from_le_bytes([bytes[at], bytes[at + 1]]))
 }
 
 // The number whose first word is in `bytes`: refusal 9 or zero for exponent 0, else the float whose pattern is
@@ -27,20 +28,21 @@ fn word(bytes: [u8; 2]) -> u64
 // digits of its fraction; digits that were rounded up run over into the exponent. (The word's fields are taken
 // by division, since they are no whole bytes. Both forms come here, and of both the first word alone is read.)
 #[tactic(auto, using(crate::proofs::Patterns::no_nan))]
-fn number(bytes: [u8; 2], size: u64) -> Result<f64, Refused>
-    requires { size ≤ 2 ^ 60 }
-    ensures { told result ≡ by_exponent (patterned size bytes) bytes }
+fn number(bytes: &[u8], size: u64) -> Result<f64, Refused>
+    requires { (2 ≤ length bytes.now) × (size ≤ 2 ^ 60) }
+    ensures { told result ≡ by_exponent (patterned size bytes.now) bytes.now }
 {
-    let first = word(bytes);
+    let first = word(bytes, 0);
     let sign = first / 32768;
-    if first / 128 % 256 == 0 {
+    let float = if first / 128 % 256 == 0 {
         if sign == 1 {
             return Err(Refused(Refusal::Reserved, 0));
         }
-        return Ok(0.0);
-    }
-    let pattern = sign * 0x8000_0000_0000_0000 + 0x37e0_0000_0000_0000 + size;
-    let float = f64::from_bits(pattern);
+        0.0
+    } else {
+        let pattern = sign * 0x8000_0000_0000_0000 + 0x37e0_0000_0000_0000 + size;
+        f64::from_bits(pattern)
+    };
     Ok(float)
 }
 
@@ -49,16 +51,15 @@ fn number(bytes: [u8; 2], size: u64) -> Result<f64, Refused>
 fn bits_f(bytes: &[u8; 4]) -> u64
     ensures { (result ≡ below_sign_F bytes.now) × BitsF bytes.now }
 {
-    let [a, b, c, d] = *bytes;
-    word([a, b]) % 32768 * 65536 + word([c, d])
+    word(bytes, 0) % 32768 * 65536 + word(bytes, 2)
 }
 
 // The 63 bits of a D number below its sign.
 fn bits_d(bytes: &[u8; 8]) -> u64
     ensures { (result ≡ below_sign_D bytes.now) × BitsD bytes.now }
 {
-    let [a, b, c, d, e, f, g, h] = *bytes;
-    (bits_f(&[a, b, c, d]) * 65536 + word([e, f])) * 65536 + word([g, h])
+    let front = bytes.first_chunk::<4>().unwrap();
+    (bits_f(front) * 65536 + word(bytes, 4)) * 65536 + word(bytes, 6)
 }
 
 // The F number in the first 4 bytes, exactly: `exact` says what the float is over whole numbers.
@@ -68,7 +69,7 @@ pub fn vax_f(bytes: &[u8]) -> Result<f64, Refused>
 {
     let four = bytes.first_chunk::<4>().ok_or(Refused(Refusal::Short, 0))?;
     // 23 digits of a fraction and 29 zeros
-    number([four[0], four[1]], bits_f(four) * 0x2000_0000)
+    number(four, bits_f(four) * 0x2000_0000)
 }
 
 // An eighth, to the nearest whole number and at a tie to the even one: three is added, and one more where
@@ -95,7 +96,7 @@ pub fn vax_d(bytes: &[u8]) -> Result<f64, Refused>
     ensures nearest { NearestD bytes.now (told result) }
 {
     let eight = bytes.first_chunk::<8>().ok_or(Refused(Refusal::Short, 0))?;
-    number([eight[0], eight[1]], nearest_eighth(bits_d(eight)))
+    number(eight, nearest_eighth(bits_d(eight)))
 }
 
 // The D number in the first 8 bytes, its three lowest fraction bits dropped and the rest exact, for old
@@ -106,5 +107,5 @@ pub fn vax_d_dropped(bytes: &[u8]) -> Result<f64, Refused>
     ensures exact { ExactDroppedD bytes.now (told result) }
 {
     let eight = bytes.first_chunk::<8>().ok_or(Refused(Refusal::Short, 0))?;
-    number([eight[0], eight[1]], dropped_eighth(bits_d(eight)))
+    number(eight, dropped_eighth(bits_d(eight)))
 }
