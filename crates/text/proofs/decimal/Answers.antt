@@ -25,8 +25,5 @@ loop-rest-preserved c =
       zeros_before l.digits (l.first - 1) l.first _ (omega arith) l.invariant.1,
     )
 
-pub invariant_of-result : goal.invariant_of-result
-invariant_of-result c = let l = c.loop-rest in (l.invariant.0.within, l.invariant.0.twenty, l.invariant.1)
-
 pub returns : goal.returns
 returns c = let l = c.loop-rest in nothing_left _ l.digits l.first l.rest l.invariant.0 (omega arith)
